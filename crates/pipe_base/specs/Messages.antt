@@ -1,0 +1,38 @@
+-- Messages that a host holds: pairs of a key and a body, in the total order.
+use Rattle.std.specs.Prelude.{ℕ, ◌==◌, ◌&&◌, nat_lt, nat_le, Bool, List, filter}
+use Rattle.std.specs.List.{list_any}
+use Rattle.std.specs.Ordering.{nat_cmp, ordering_then}
+use Rattle.std.specs.declared.cmp.Ordering.{Ordering}
+use Rattle.std.specs.BTreeMap.{insert_entry}
+use Rattle.pipe_base.specs.declared.message.Key.{Key}
+use Rattle.pipe_base.specs.declared.message.Entry.{Entry}
+
+abbrev pub Messages : Type 0
+Messages = List (Key × List ℕ)
+
+-- the total order: by timestamp, then by sender
+abbrev pub key_cmp : Key → Key → Ordering
+key_cmp a b = ordering_then (nat_cmp a.ts.0 b.ts.0) (nat_cmp a.src.0 b.src.0)
+
+-- the messages with one more, at its place in the order
+abbrev pub with_message : Key → List ℕ → Messages → Messages
+with_message key body messages = insert_entry key_cmp messages key body
+
+abbrev pub same_key : Key → Key → Bool
+same_key a b = (a.ts.0 == b.ts.0) && (a.src.0 == b.src.0)
+
+-- a message with this key is among them
+abbrev pub has_key : Key → Messages → Bool
+has_key key messages = list_any (λ m. same_key m.0 key) messages
+
+-- the messages whose timestamp is at least a barrier
+abbrev pub from_barrier : ℕ → Messages → Messages
+from_barrier barrier messages = filter (λ m. nat_le barrier m.0.ts.0) messages
+
+-- the messages whose timestamp is below a barrier
+abbrev pub below_barrier : ℕ → Messages → Messages
+below_barrier barrier messages = filter (λ m. nat_lt m.0.ts.0 barrier) messages
+
+-- a message as a line of the log
+abbrev pub entry_of : (Key × List ℕ) → Entry
+entry_of m = record { key = m.0; body = m.1 }

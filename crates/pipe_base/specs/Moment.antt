@@ -1,0 +1,40 @@
+-- What happens at one node to its in-links, one moment at a time, newest first.
+use Rattle.std.specs.Prelude.{ℕ, ◌==◌, if◌then◌else◌, Bool, true, false, List, [], ◌∷◌, filter}
+use Rattle.pipe_base.specs.declared.name.LinkId.{LinkId}
+use Rattle.pipe_base.specs.declared.packet.Plane.{Plane}
+use Rattle.pipe_base.specs.declared.packet.Plane.TheVariants.{BestEffort, Commit}
+
+pub data Moment : Type 0 where
+  -- a packet with these barriers was received on the link
+  Received : (link be commit : ℕ) → Moment
+  -- the same in a step that also lists links as down or dropped: the next moments are looked at, this one is not
+  Counted : (link be commit : ℕ) → Moment
+  -- the link went down
+  WentDown : (link : ℕ) → Moment
+  -- the node came to know the link as dropped
+  Dropped : (link : ℕ) → Moment
+
+-- a link is up until it goes down or is dropped
+abbrev pub is_up : List Moment → ℕ → Bool
+is_up [] link = true
+is_up (Received l be commit ∷ past) link = is_up past link
+is_up (Counted l be commit ∷ past) link = is_up past link
+is_up (WentDown l ∷ past) link = if l == link then false else is_up past link
+is_up (Dropped l ∷ past) link = if l == link then false else is_up past link
+
+-- a link is kept until it is dropped
+abbrev pub is_kept : List Moment → ℕ → Bool
+is_kept [] link = true
+is_kept (Received l be commit ∷ past) link = is_kept past link
+is_kept (Counted l be commit ∷ past) link = is_kept past link
+is_kept (WentDown l ∷ past) link = is_kept past link
+is_kept (Dropped l ∷ past) link = if l == link then false else is_kept past link
+
+-- a link is in best-effort use while it is up, and in commit use while it is kept
+abbrev pub is_used : Plane → List Moment → ℕ → Bool
+is_used BestEffort past link = is_up past link
+is_used Commit past link = is_kept past link
+
+-- the in-links that are in use
+abbrev pub in_use : Plane → List LinkId → List Moment → List LinkId
+in_use plane ins past = filter (λ l. is_used plane past l.0) ins

@@ -1,0 +1,23 @@
+// The two refusals that stand alone.
+
+use std::alloc::{AllocError, AllocFailed};
+
+/// There was no memory. The call changed nothing.
+#[derive(Clone, Copy, Debug, PartialEq, Eq)]
+pub struct NoMemory;
+
+impl From<AllocError> for NoMemory {
+    fn from(_: AllocError) -> Self {
+        NoMemory
+    }
+}
+
+impl<T: Drop> From<AllocFailed<T>> for NoMemory {
+    fn from(_: AllocFailed<T>) -> Self {
+        NoMemory
+    }
+}
+
+/// A call to the outside failed: a fault that the object counts.
+#[derive(Clone, Copy, Debug, PartialEq, Eq)]
+pub struct Failed;

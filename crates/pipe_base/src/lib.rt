@@ -1,0 +1,27 @@
+//! The words that every other crate speaks: names of hosts, nodes and links, timestamps, packets, control messages,
+//! what one step of a node tells, and the traits of the outside world with their forms in memory.
+#![tactic(auto)]
+
+mod body;
+mod control;
+mod fault;
+mod list;
+mod memory;
+mod message;
+mod name;
+mod outside;
+mod packet;
+mod steady;
+mod step;
+
+pub use body::{BODY_LIMIT, Body, BodyFault};
+pub use control::{Addressed, Announced, AnnouncedList, Control, LinkList, To};
+pub use fault::{Failed, NoMemory};
+pub use list::List;
+pub use memory::{MemorySink, MemorySource};
+pub use message::{Dest, DestList, Entry, Key, LoggedList, Message, Service};
+pub use name::{HostId, LAST_BARRIER, LAST_STAMP, Link, LinkId, NodeId, Ts};
+pub use outside::{Sink, Source};
+pub use packet::{Packet, PacketKind, Plane};
+pub use steady::{SteadySink, SteadySource};
+pub use step::{AddressedList, DownList, Fate, Outcome, PutList, Step};
