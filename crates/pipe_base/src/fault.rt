@@ -21,3 +21,12 @@ impl<T: Drop> From<AllocFailed<T>> for NoMemory {
 /// A call to the outside failed: a fault that the object counts.
 #[derive(Clone, Copy, Debug, PartialEq, Eq)]
 pub struct Failed;
+
+/// What an input or a run has too much of.
+#[derive(Clone, Copy, Debug, PartialEq, Eq)]
+pub enum Size {
+    Bytes,
+    Events,
+    /// Packets and control messages put.
+    Items,
+}

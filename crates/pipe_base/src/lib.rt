@@ -16,7 +16,7 @@ mod step;
 
 pub use body::{BODY_LIMIT, Body, BodyFault};
 pub use control::{Addressed, Announced, AnnouncedList, Control, LinkList, To};
-pub use fault::{Failed, NoMemory};
+pub use fault::{Failed, NoMemory, Size};
 pub use list::List;
 pub use memory::{MemorySink, MemorySource};
 pub use message::{Dest, DestList, Entry, Key, LoggedList, Message, Service};

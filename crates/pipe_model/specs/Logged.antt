@@ -1,0 +1,38 @@
+-- What a host logs in a record, and its logs.
+use Rattle.std.specs.Prelude.{ℕ, if◌then◌else◌, Bool, true, false, List, [], ◌∷◌, ◌++◌, map, filter}
+use Rattle.pipe_base.specs.declared.message.Entry.{Entry}
+use Rattle.pipe_base.specs.declared.message.Service.{Service}
+use Rattle.pipe_base.specs.declared.message.Service.TheVariants.{BestEffort, Reliable}
+use Rattle.pipe_base.specs.Graph.{Graph}
+use Rattle.pipe_base.specs.Messages.{Messages, from_barrier, below_barrier, entry_of}
+use Rattle.pipe_model.specs.declared.record.Record.{Record}
+use Rattle.pipe_model.specs.Moments.{barrier_at}
+use Rattle.pipe_model.specs.Fate.{plane_of, held}
+
+-- What the record logs of a service, in the total order: the messages held that its barrier passes in this very record.
+abbrev pub passed_in : Service → Graph → ℕ → List Record → Record → Messages
+passed_in service graph node own r =
+    below_barrier (barrier_at (plane_of service) graph node (r ∷ own))
+    (from_barrier (barrier_at (plane_of service) graph node own) (held service graph node (r ∷ own)))
+
+abbrev pub logged_in : Service → Graph → ℕ → List Record → Record → List (Service × Entry)
+logged_in service graph node own r = map (λ m. (service, entry_of m)) (passed_in service graph node own r)
+
+-- what the record logs: best effort alone, as reliable messages are not built yet
+abbrev pub logged : Graph → ℕ → List Record → Record → List (Service × Entry)
+logged graph node own r = logged_in BestEffort graph node own r
+
+abbrev pub same_service : Service → Service → Bool
+same_service BestEffort BestEffort = true
+same_service BestEffort Reliable = false
+same_service Reliable BestEffort = false
+same_service Reliable Reliable = true
+
+-- the entries of one service
+abbrev pub entries_of : Service → List (Service × Entry) → List Entry
+entries_of service logged = map (λ e. e.1) (filter (λ e. same_service service e.0) logged)
+
+-- a host's log of a service: all that its own records logged, in order
+abbrev pub log : Service → List Record → List Entry
+log service [] = []
+log service (r ∷ own) = log service own ++ entries_of service r.step.logged
