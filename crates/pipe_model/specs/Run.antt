@@ -8,6 +8,7 @@ use Rattle.pipe_model.specs.declared.record.Record.{Record}
 use Rattle.pipe_model.specs.Acting.{is_idle, is_own, own}
 use Rattle.pipe_model.specs.Clock.{stamped}
 use Rattle.pipe_model.specs.Duties.{put, unrouted, control}
+use Rattle.pipe_model.specs.Event.{IsBuilt}
 use Rattle.pipe_model.specs.Fate.{fate}
 use Rattle.pipe_model.specs.Logged.{logged}
 use Rattle.pipe_model.specs.Marks.{downed, newly_dropped, newly_noted}
@@ -46,8 +47,10 @@ is_of_nobody (Cut link) = true
 abbrev pub is_quiet : Record → Bool
 is_quiet r = is_idle r.step.outcome || is_of_nobody r.event
 
--- What a record is after a history: the outcome and what is taken, nothing done where nobody acts, and what the acting node owes.
+-- What a record is after a history: the event is one of those built so far, the outcome and what is taken are as told,
+-- nothing is done where nobody acts, and the acting node does what it owes.
 pub record IsStep (graph : Graph) (past : List Record) (r : Record) : Type 0 where
+  pub built : IsBuilt r.event
   pub outcome_is : r.step.outcome ≡ outcome_of graph past r.event
   pub took_is : r.took ≡ took_of past r.event
   pub quiet : is_quiet r ≡ true → r.step ≡ quiet_step r.step.outcome
