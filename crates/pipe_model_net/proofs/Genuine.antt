@@ -1,31 +1,30 @@
 -- What a host holds, and so what it logs, was sent to it with that body.
-use Rattle.std.proofs.Common.{◌≡◌, ◌⊎◌, ℕ, ◌==◌, ◌&&◌, nat_lt, if◌then◌else◌, Bool, true, false, List, [], ◌∷◌, ◌++◌, Option, None, Some, map, filter, refl, inl, inr, sym, subst, ap, ◌∙◌, arith}
+use Rattle.std.proofs.Common.{◌≡◌, ℕ, ◌==◌, ◌&&◌, if◌then◌else◌, Bool, true, false, List, [], ◌∷◌, Option, None, Some, map, refl, inr, sym, subst, ap, ◌∙◌}
 use Rattle.std.specs.List.{All}
-use Rattle.std.proofs.lemmas.List.Elements.{All-nil, All-cons, All-map, All-weaker, All-filter, All-head, All-tail}
+use Rattle.std.proofs.lemmas.List.Elements.{All-nil, All-map, All-weaker, All-filter}
 use Rattle.pipe_base.specs.declared.message.Entry.{Entry}
 use Rattle.pipe_base.specs.declared.message.Key.{Key}
 use Rattle.pipe_base.specs.declared.message.Service.{Service}
 use Rattle.pipe_base.specs.declared.message.Service.TheVariants.{BestEffort, Reliable}
-use Rattle.pipe_base.specs.declared.name.LinkId.{LinkId}
 use Rattle.pipe_base.specs.declared.packet.Packet.{Packet}
 use Rattle.pipe_base.specs.declared.packet.PacketKind.{PacketKind}
 use Rattle.pipe_base.specs.declared.packet.PacketKind.TheVariants.{Beacon, Plain, Prepare, Ack, Recall, RecallAck}
 use Rattle.pipe_base.specs.declared.step.Fate.{Fate}
 use Rattle.pipe_base.specs.declared.step.Fate.TheVariants.{Held, Repeat, Late, Discarded, Recalled}
 use Rattle.pipe_base.specs.Graph.{Graph, is_host}
-use Rattle.pipe_base.specs.Messages.{Messages, entry_of, from_barrier, below_barrier}
+use Rattle.pipe_base.specs.Messages.{Messages, entry_of, from_barrier}
 use Rattle.pipe_base.proofs.KeyOrder.{insert_all}
 use Rattle.pipe_model.specs.declared.record.Record.{Record}
-use Rattle.pipe_model.specs.declared.record.Took.TheVariants.{Link}
 use Rattle.pipe_model.specs.Acting.{is_own, own}
 use Rattle.pipe_model.specs.Fate.{key_of, carries, got_of, got, fate_of, with_held, held, plane_of}
-use Rattle.pipe_model.specs.Logged.{passed_in, logged_in, logged, entries_of, same_service}
+use Rattle.pipe_model.specs.Logged.{passed_in, entries_of}
 use Rattle.pipe_model.specs.Moments.{received, moments_of, barrier_at}
 use Rattle.pipe_model.specs.Order.{WasSent, LoggedWasSent, IsGenuine}
 use Rattle.pipe_model.specs.Run.{IsHistory, IsStep}
+use Rattle.pipe_model.proofs.Entries.{best_entries, no_entries}
 use Rattle.pipe_model.proofs.Own.{own_more, own_same}
 use Rattle.pipe_model_net.proofs.Packets.{took_waited, at_place}
-use Rattle.pipe_model_net.proofs.Sent.{IsSent, entry_from, received_took, waiting_sent}
+use Rattle.pipe_model_net.proofs.Sent.{IsSent, entry_from, received_took, same_number, waiting_sent}
 use Rattle.pipe_model.specs.Waiting.{waiting_on}
 
 -- a message of a host was sent to it
@@ -46,15 +45,12 @@ plain_of Ack is = cc
 plain_of Recall is = cc
 plain_of RecallAck is = cc
 
-number_of : (a b : ℕ) → (a == b) ≡ true → a ≡ b
-number_of a b is = grind (arith, is)
-
 -- (a && (b && c)) is a test of all three
 brought_by : (a b c : Bool) (node : ℕ) (q : ℕ × Packet) (p : Packet) → (q.1.dst.0 == node) ≡ b → carries BestEffort q.1.kind ≡ c
     → (if a && (b && c) then Some q.1 else None) ≡ Some p → Brings node q p
 brought_by true true true node q p dst kind is =
     let same : q.1 ≡ p = cc in
-    record { same = same; dst = ap (λ (x : Packet). x.dst.0) (sym same) ∙ number_of q.1.dst.0 node dst; kind = ap (λ (x : Packet). x.kind) (sym same) ∙ plain_of q.1.kind kind }
+    record { same = same; dst = ap (λ (x : Packet). x.dst.0) (sym same) ∙ same_number q.1.dst.0 node dst; kind = ap (λ (x : Packet). x.kind) (sym same) ∙ plain_of q.1.kind kind }
 brought_by true true false node q p dst kind is = cc
 brought_by true false c node q p dst kind is = cc
 brought_by false b c node q p dst kind is = cc
@@ -108,15 +104,6 @@ held_sent : (graph : Graph) (past : List Record) (n : ℕ) → IsHistory graph p
 held_sent graph [] n run = All-nil (SentTo n [])
 held_sent graph (r ∷ past) n run = held_by graph past r n (is_own graph n r) refl run.0 run.1 (held_sent graph past n run.0)
 
--- the entries of a service among those of best effort
-best_entries : (ms : Messages) → entries_of BestEffort (map (λ m. (BestEffort, entry_of m)) ms) ≡ map entry_of ms
-best_entries [] = refl
-best_entries (m ∷ ms) = ap (λ (es : List Entry). entry_of m ∷ es) (best_entries ms)
-
-no_entries : (ms : Messages) → entries_of Reliable (map (λ m. (BestEffort, entry_of m)) ms) ≡ []
-no_entries [] = refl
-no_entries (m ∷ ms) = no_entries ms
-
 passed_sent : (graph : Graph) (past : List Record) (r : Record) (n : ℕ) → IsHistory graph past → IsStep graph past r
     → All (SentTo n past) (passed_in BestEffort graph n (own graph n past) r)
 passed_sent graph past r n run step =
@@ -128,13 +115,13 @@ logged_sent : (graph : Graph) (past : List Record) (r : Record) (n : ℕ) (servi
 logged_sent graph past r n BestEffort run step mine =
     let o : List Record = own graph n past in
     let entries : entries_of BestEffort r.step.logged ≡ map entry_of (passed_in BestEffort graph n o r) =
-        ap (entries_of BestEffort) (step.node n mine).logged_is ∙ best_entries (passed_in BestEffort graph n o r) in
+    ap (entries_of BestEffort) (step.node n mine).logged_is ∙ best_entries (passed_in BestEffort graph n o r) in
     subst (λ (es : List Entry). All (λ (e : Entry). WasSent BestEffort n e past) es) (sym entries)
     (All-map (λ (e : Entry). WasSent BestEffort n e past) entry_of (passed_in BestEffort graph n o r) (passed_sent graph past r n run step))
 logged_sent graph past r n Reliable run step mine =
     let o : List Record = own graph n past in
     let entries : entries_of Reliable r.step.logged ≡ [] =
-        ap (entries_of Reliable) (step.node n mine).logged_is ∙ no_entries (passed_in BestEffort graph n o r) in
+    ap (entries_of Reliable) (step.node n mine).logged_is ∙ no_entries (passed_in BestEffort graph n o r) in
     subst (λ (es : List Entry). All (λ (e : Entry). WasSent Reliable n e past) es) (sym entries) (All-nil (λ (e : Entry). WasSent Reliable n e past))
 
 pub run_genuine : (graph : Graph) (past : List Record) → IsHistory graph past → IsGenuine graph past

@@ -1,5 +1,5 @@
 -- The principle of packets: what stays true along a run, and holds of each packet as it is put, holds of each that waits.
-use Rattle.std.proofs.Common.{◌≡◌, ◌⊎◌, ℕ, ◌==◌, ◌&&◌, not, if◌then◌else◌, Bool, true, false, List, [], ◌∷◌, ◌++◌, Option, None, Some, length, take, drop, refl, inl, inr, sym, subst, ◌∙◌, zero, suc}
+use Rattle.std.proofs.Common.{◌≡◌, ℕ, ◌==◌, ◌&&◌, not, if◌then◌else◌, Bool, true, false, List, [], ◌∷◌, Option, None, Some, take, drop, refl, sym, subst, ◌∙◌, zero, suc}
 use Rattle.std.specs.List.{All, remove, slice_get}
 use Rattle.std.proofs.lemmas.List.Elements.{All-nil, All-cons, All-head, All-tail, All-append, All-take, All-drop, All-weaker}
 use Rattle.pipe_base.specs.declared.name.LinkId.{LinkId}
@@ -9,8 +9,7 @@ use Rattle.pipe_base.specs.Graph.{Graph}
 use Rattle.pipe_model.specs.declared.event.Event.{Event}
 use Rattle.pipe_model.specs.declared.event.Event.TheVariants.{Send, Tick, Take, Lose, ControlTake, ControlLose, Decide, Crash, Cut}
 use Rattle.pipe_model.specs.declared.record.Record.{Record}
-use Rattle.pipe_model.specs.declared.record.Took.{Took}
-use Rattle.pipe_model.specs.declared.record.Took.TheVariants.{Nothing, Link, Message}
+use Rattle.pipe_model.specs.declared.record.Took.TheVariants.{Link}
 use Rattle.pipe_model.specs.Acting.{is_idle}
 use Rattle.pipe_model.specs.Outcome.{took_of, took_at}
 use Rattle.pipe_model.specs.Run.{IsHistory, IsStep}
@@ -96,5 +95,5 @@ packets_keep graph Q kept (r ∷ past) run link =
     let before : (k : ℕ) → All (Q past) (waiting_on k past) = packets_keep graph Q kept past run.0 in
     All-append (Q (r ∷ past)) (left_after link r.event r.step.outcome (waiting_on link past)) (put_on link r.step.put)
     (left_all (Q (r ∷ past)) link r.event r.step.outcome (waiting_on link past)
-        (All-weaker (Q past) (Q (r ∷ past)) (λ p. kept.stays past r p) (waiting_on link past) (before link)))
+    (All-weaker (Q past) (Q (r ∷ past)) (λ p. kept.stays past r p) (waiting_on link past) (before link)))
     (put_all (Q (r ∷ past)) link r.step.put (kept.starts past r run.1 (λ l p took. taken_keeps graph Q past r l p run.1 before took)))

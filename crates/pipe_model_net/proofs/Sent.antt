@@ -1,5 +1,5 @@
 -- Each best-effort packet that waits has a send: by its sender, under its timestamp, that lists its receiver with its body.
-use Rattle.std.proofs.Common.{◌≡◌, ◌⊎◌, ℕ, ◌==◌, ◌&&◌, not, nat_le, if◌then◌else◌, Bool, true, false, List, [], ◌∷◌, ◌++◌, Option, None, Some, length, map, filter, refl, inl, inr, sym, subst, ap, ◌∙◌, arith}
+use Rattle.std.proofs.Common.{◌≡◌, ℕ, ◌==◌, ◌&&◌, not, nat_le, if◌then◌else◌, Bool, true, false, List, [], ◌∷◌, Option, None, Some, filter, refl, inl, inr, sym, subst, ap, ◌∙◌, arith}
 use Rattle.std.specs.List.{All, Contains}
 use Rattle.std.proofs.lemmas.List.Elements.{All-nil, All-cons, All-append, All-map, All-contains_itself, All-weaker, All-head, All-tail}
 use Rattle.pipe_base.specs.declared.name.HostId.{HostId}
@@ -9,9 +9,8 @@ use Rattle.pipe_base.specs.declared.message.Entry.{Entry}
 use Rattle.pipe_base.specs.declared.message.Service.{Service}
 use Rattle.pipe_base.specs.declared.message.Service.TheVariants.{BestEffort, Reliable}
 use Rattle.pipe_base.specs.declared.packet.Packet.{Packet}
-use Rattle.pipe_base.specs.declared.packet.PacketKind.TheVariants.{Beacon, Plain}
-use Rattle.pipe_base.specs.declared.step.Outcome.{Outcome}
-use Rattle.pipe_base.specs.declared.step.Outcome.TheVariants.{Ok, ClockEnd}
+use Rattle.pipe_base.specs.declared.packet.PacketKind.TheVariants.{Plain}
+use Rattle.pipe_base.specs.declared.step.Outcome.TheVariants.{Ok}
 use Rattle.pipe_base.specs.Graph.{Graph, is_half, outs_of}
 use Rattle.pipe_base.specs.Messages.{entry_of}
 use Rattle.pipe_base.specs.Moment.{Moment, is_up}
@@ -23,16 +22,16 @@ use Rattle.pipe_model.specs.declared.record.Took.{Took}
 use Rattle.pipe_model.specs.declared.record.Took.TheVariants.{Nothing, Link, Message}
 use Rattle.pipe_model.specs.Acting.{acts, is_idle, is_own, own}
 use Rattle.pipe_model.specs.Clock.{next, stamped, stamp_of, stamp_at, last_stamp, send_outcome}
-use Rattle.pipe_model.specs.Duties.{Fields, fields, message_to, forwarded, beacon, is_beacon, owed_by_send, owed_by_take, owed_of, owed, has_link, beacons_of, beacons, on_way, routed, put}
+use Rattle.pipe_model.specs.Duties.{Fields, fields, message_to, forwarded, beacon, is_beacon, owed_by_send, owed_by_take, owed_of, owed, has_link, beacons_of, beacons, on_way, routed}
 use Rattle.pipe_model.specs.Event.{IsBuilt}
 use Rattle.pipe_model.specs.Fate.{key_of}
 use Rattle.pipe_model.specs.Moments.{received, received_of, taken_from, moments_of, known_drops}
-use Rattle.pipe_model.specs.Order.{IsSendTo, IsSendOf, WasSent}
+use Rattle.pipe_model.specs.Order.{IsSendTo, WasSent}
 use Rattle.pipe_model.specs.Outcome.{outcome_of}
-use Rattle.pipe_model.specs.Run.{IsHistory, IsStep, is_quiet}
+use Rattle.pipe_model.specs.Run.{IsHistory, IsStep}
 use Rattle.pipe_model.specs.Waiting.{waiting_on}
 use Rattle.pipe_model_net.proofs.Acting.{quiet_or_own, quiet_puts}
-use Rattle.pipe_model_net.proofs.Packets.{IsKept, packets_keep}
+use Rattle.pipe_model_net.proofs.Packets.{packets_keep}
 
 -- the entry that the message of a packet becomes
 abbrev pub entry_from : Packet → Entry
@@ -98,7 +97,7 @@ accepted_at : (b : Bool) (now next : ℕ) (ts : Ts) → nat_le (stamp_at now nex
 accepted_at true now next ts is stamp = rw is refl
 accepted_at false now next ts is stamp = let none : stamp_of now next ≡ None = rw is refl in cc
 
-same_number : (a b : ℕ) → (a == b) ≡ true → a ≡ b
+pub same_number : (a b : ℕ) → (a == b) ≡ true → a ≡ b
 same_number a b is = grind (arith, is)
 
 both : (a b : Bool) → (a && b) ≡ true → a ≡ true
@@ -115,7 +114,7 @@ send_accepted graph past r n host service now dests ts step mine event stamp =
     let who : host.0 ≡ n = same_number host.0 n act in
     let stamps : r.step.stamped ≡ stamp_of now.0 (next (own graph n past)) = (step.node n mine).stamped_is ∙ ap (λ (e : Event). stamped (own graph n past) e) event in
     let at_host : stamp_of now.0 (next (own graph host.0 past)) ≡ Some ts =
-        ap (λ (m : ℕ). stamp_of now.0 (next (own graph m past))) who ∙ sym stamps ∙ stamp in
+    ap (λ (m : ℕ). stamp_of now.0 (next (own graph m past))) who ∙ sym stamps ∙ stamp in
     step.outcome_is ∙ ap (λ (e : Event). outcome_of graph past e) event
     ∙ accepted_at (nat_le (stamp_at now.0 (next (own graph host.0 past))) last_stamp) now.0 (next (own graph host.0 past)) ts refl at_host
 
@@ -127,10 +126,11 @@ sent_by graph past r n f host now dests None step mine event stamp = All-nil (Is
 sent_by graph past r n f host now dests (Some ts) step mine event stamp =
     let accepted : r.step.outcome ≡ Ok = send_accepted graph past r n host BestEffort now dests ts step mine event stamp in
     let listed : (d : HostId × List ℕ) → Contains dests d → IsSent (r ∷ past) (message_to host ts f d) =
-        λ d among plain. inl (record {
-            accepted = accepted;
-            stamp = stamp;
-            listed = subst (λ (e : Event). IsSendTo BestEffort d.0.0 (entry_from (message_to host ts f d)) e) (sym event) (refl, (refl, among)) }) in
+    λ d among plain. inl (record {
+      accepted = accepted;
+      stamp = stamp;
+      listed = subst (λ (e : Event). IsSendTo BestEffort d.0.0 (entry_from (message_to host ts f d)) e) (sym event) (refl, (refl, among));
+    }) in
     All-map (IsSent (r ∷ past)) (message_to host ts f) dests
     (All-weaker (Contains dests) (λ (d : HostId × List ℕ). IsSent (r ∷ past) (message_to host ts f d)) listed dests (All-contains_itself dests))
 
@@ -168,9 +168,9 @@ puts_of_own graph past r n step mine sent =
     let o : List Record = own graph n past in
     subst (λ (puts : List (LinkId × Packet)). All (λ (q : LinkId × Packet). IsSent (r ∷ past) q.1) puts) (sym (step.node n mine).put_is)
     (All-append (λ (q : LinkId × Packet). IsSent (r ∷ past) q.1) (routed graph (known_drops (r ∷ o)) n (owed graph n o r)) (beacons graph n o r)
-        (routed_all (IsSent (r ∷ past)) graph (known_drops (r ∷ o)) n (owed graph n o r)
-            (owed_all graph past r n (fields graph n o r) r.event step mine refl sent))
-        (beacons_all (r ∷ past) graph n (known_drops (r ∷ o)) (fields graph n o r) r.event))
+    (routed_all (IsSent (r ∷ past)) graph (known_drops (r ∷ o)) n (owed graph n o r)
+    (owed_all graph past r n (fields graph n o r) r.event step mine refl sent))
+    (beacons_all (r ∷ past) graph n (known_drops (r ∷ o)) (fields graph n o r) r.event))
 
 puts_sent : (graph : Graph) (past : List Record) (r : Record) → IsStep graph past r
     → ((l : LinkId) (p : Packet) → r.took ≡ Link l p → IsSent past p) → All (λ q. IsSent (r ∷ past) q.1) r.step.put

@@ -10,5 +10,4 @@ ghost use Rattle.pipe_model.specs.Order.{IsGenuine};
 /// Genuineness: in every run, what is logged was sent before to that host and with that body.
 pub fn every_run_is_genuine()
     ensures { (graph : Graph) (past : List Record) → IsHistory graph past → IsGenuine graph past }
-{
-}
+{}
