@@ -25,3 +25,6 @@ pub use outside::{Sink, Source};
 pub use packet::{Packet, PacketKind, Plane};
 pub use steady::{SteadySink, SteadySource};
 pub use step::{AddressedList, DownList, Fate, Outcome, PutList, Step};
+
+#[cfg(test)]
+mod tests;
