@@ -1,2 +1,3 @@
+pub mod BarrierLaws
 pub mod KeyOrder
 pub mod Slices
