@@ -1,7 +1,8 @@
 -- Which node reaches which by a set of links, as a test: there is a path.
-use Rattle.std.specs.Prelude.{ℕ, zero, suc, ◌==◌, ◌&&◌, ◌||◌, Bool, length}
+use Rattle.std.specs.Prelude.{◌≡◌, ℕ, zero, suc, ◌<◌, ◌==◌, ◌&&◌, ◌||◌, Bool, true, length}
 use Rattle.pipe_base.specs.Below.{any_below}
 use Rattle.pipe_base.specs.Graph.{Graph, tail_of, head_of, is_half}
+use Rattle.pipe_base.specs.Path.{every_link}
 
 -- some link of the set leads from the node to one that passes the test
 abbrev pub goes_on : Graph → (ℕ → Bool) → ℕ → (ℕ → Bool) → Bool
@@ -19,3 +20,7 @@ reaches graph by start end = goes_on graph by start (leads_within graph by end g
 -- a host feeds a link by the set: it is the link's tail, or reaches the tail, and that is a half
 abbrev pub feeds : Graph → (ℕ → Bool) → ℕ → ℕ → Bool
 feeds graph by host link = (host == tail_of graph link) || (is_half graph (tail_of graph link) && reaches graph by host (tail_of graph link))
+
+-- by all links any two hosts reach each other, and each host itself
+abbrev pub JoinsAllHosts : Graph → Type 0
+JoinsAllHosts graph = (a b : ℕ) → a < graph.hosts → b < graph.hosts → reaches graph every_link a b ≡ true
