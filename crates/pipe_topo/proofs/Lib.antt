@@ -1,3 +1,5 @@
 pub mod FirstLaws
 pub mod LinkLaws
+pub mod ReachLaws
 pub mod TableLaws
+pub mod WalkLaws

@@ -5,9 +5,11 @@
 mod fault;
 mod links;
 mod plan;
+mod reach;
 mod shape;
 mod tables;
 mod topology;
+mod walk;
 
 pub use fault::{TopoFault, What};
 pub use links::LinkSet;
