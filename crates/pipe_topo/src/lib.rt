@@ -2,6 +2,8 @@
 //! and sets of links and hosts.
 #![tactic(auto)]
 
+mod apart;
+mod build;
 mod fault;
 mod links;
 mod plan;
