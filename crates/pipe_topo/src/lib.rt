@@ -6,6 +6,7 @@ mod apart;
 mod build;
 mod fault;
 mod links;
+mod names;
 mod plan;
 mod reach;
 mod shape;
@@ -15,5 +16,6 @@ mod walk;
 
 pub use fault::{TopoFault, What};
 pub use links::LinkSet;
+pub use names::Names;
 pub use plan::{Cable, CableEnd, CableList, LevelList, Plan};
 pub use topology::Topology;
