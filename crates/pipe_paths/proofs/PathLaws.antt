@@ -1,6 +1,6 @@
 -- Lemmas on paths: joined at a half, split at a link, by a larger set.
-use Rattle.std.proofs.Common.{◌≡◌, ℕ, ◌+◌, ◌<◌, ◌≤◌, Bool, true, List, [], ◌∷◌, ◌++◌, length, refl, sym, ap, subst, ◌∙◌, arith}
-use Rattle.pipe_base.specs.Graph.{Graph, IsGraph, tail_of, head_of, is_half}
+use Rattle.std.proofs.Common.{◌≡◌, ℕ, ◌<◌, Bool, true, List, [], ◌∷◌, ◌++◌, length, refl, sym, subst}
+use Rattle.pipe_base.specs.Graph.{Graph, IsGraph, head_of, is_half}
 use Rattle.pipe_base.specs.Path.{LeavesBy, Leads, IsPath}
 
 -- a set with at least the links of another
