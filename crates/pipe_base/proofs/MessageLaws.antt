@@ -9,10 +9,12 @@ use Rattle.std.specs.Ordering.{nat_cmp, ordering_then, match_ordering, is_eq}
 use Rattle.std.specs.declared.cmp.Ordering.{Ordering}
 use Rattle.std.specs.declared.cmp.Ordering.TheVariants.{Less, Equal, Greater}
 use Rattle.std.specs.BTreeMap.{insert_entry, is_at}
-use Rattle.std.proofs.lemmas.List.Elements.{All-nil, All-cons, All-head, All-tail, All-weaker, filter_passes}
+use Rattle.std.proofs.lemmas.List.Elements.{All-nil, All-cons, All-head, All-tail, All-weaker, All-map, filter_passes}
 use Rattle.std.proofs.lemmas.Map.Keys.{sorted_head, sorted_tail}
+use Rattle.pipe_base.specs.declared.message.Entry.{Entry}
 use Rattle.pipe_base.specs.declared.message.Key.{Key}
-use Rattle.pipe_base.specs.Messages.{Messages, key_cmp, Before, IsInOrder, with_message, without_message, same_key, has_key, from_barrier, below_barrier}
+use Rattle.pipe_base.specs.declared.message.Service.{Service}
+use Rattle.pipe_base.specs.Messages.{Messages, key_cmp, Before, IsInOrder, with_message, without_message, same_key, has_key, from_barrier, below_barrier, entry_of, logged_of}
 use Rattle.pipe_base.proofs.KeyOrder.{less_before, equal_same, greater_after, same_numbers}
 
 -- ---- filters
@@ -272,3 +274,8 @@ removed_is k [] order = refl
 removed_is k (m ∷ ms) order =
     ap (λ (t : Bool). cond t ms (m ∷ remove_entry (is_at (key_cmp k)) ms)) (is_at-same_key k m.0)
     ∙ removed_by k m ms order (removed_is k ms order.1) (same_key m.0 k) refl
+
+-- what is logged is below the barrier: one more than its timestamp is at most the barrier
+pub logged-below : (service : Service) (b : ℕ) (ms : Messages) → All (λ e. e.1.key.ts.0 < b) (logged_of service (below_barrier b ms))
+logged-below service b ms =
+    All-map (λ (e : Service × Entry). e.1.key.ts.0 < b) (λ (m : Key × List ℕ). (service, entry_of m)) (below_barrier b ms) (below-all b ms)

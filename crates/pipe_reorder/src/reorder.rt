@@ -1,9 +1,9 @@
 // The held messages of one service.
-ghost use Rattle.std.specs.Prelude.{◌≡◌, ◌++◌, length, OnOk, OnErr, ℕ, List, false};
+ghost use Rattle.std.specs.Prelude.{◌≡◌, ◌<◌, ◌++◌, ℕ, List, length, false, All, IfOk, OnOk, OnErr};
 ghost use Rattle.pipe_base.specs.Messages.{Messages, IsInOrder, with_message, without_message, has_key, from_barrier, below_barrier, logged_of};
-ghost use Rattle.pipe_reorder.specs.Buffer.{Buffer, empty_buffer, AppendsSome};
+ghost use Rattle.pipe_reorder.specs.Buffer.{Buffer, empty_buffer, fate_of, with_placed, AppendsSome};
 
-use pipe_base::{Body, Entry, Key, LoggedList, NoMemory, Service, Ts};
+use pipe_base::{Body, Entry, Fate, Key, LoggedList, Message, NoMemory, Service, Ts};
 use std::alloc::Global;
 use std::collections::BTreeMap;
 use std::marker::Model;
@@ -54,6 +54,7 @@ impl Reorder {
         self.barrier
     }
 
+    /// Whether a message with this key is held.
     pub fn holds(&self, key: Key) -> bool
         ensures { result ≡ has_key key self.now.messages }
     {
@@ -77,9 +78,32 @@ impl Reorder {
         let _ = self.held.remove(&key);
     }
 
+    /// Gives a message of this service its fate, and holds it where that is `Held`.
+    pub fn place(&mut self, message: Message) -> Result<Fate, NoMemory>
+        ensures fate { IfOk result (λ fate. fate ≡ fate_of self.old message.ts message.src) }
+        ensures held { IfOk result (λ fate. self.new ≡ with_placed fate message.ts message.src message.body self.old) }
+        ensures err { OnErr result (self.new ≡ self.old) }
+    {
+        let key = Key {
+            ts: message.ts,
+            src: message.src,
+        };
+        if key.ts.0 < self.barrier.0 {
+            return Ok(Fate::Late {
+                barrier: self.barrier,
+            });
+        }
+        if self.holds(key) {
+            return Ok(Fate::Repeat);
+        }
+        self.hold(key, message.body)?;
+        Ok(Fate::Held)
+    }
+
     /// Appends the held messages below the barrier, in the total order. After `NoMemory` some of them were appended.
     pub fn copy_passed(&self, barrier: Ts, out: &mut LoggedList) -> Result<(), NoMemory>
         ensures ok { OnOk result (out.new ≡ out.old ++ logged_of self.now.service (below_barrier barrier.0 self.now.messages)) }
+        ensures early { OnOk result (All (λ e. e.1.key.ts.0 < barrier.0) out.old → All (λ e. e.1.key.ts.0 < barrier.0) out.new) }
         ensures err { OnErr result (AppendsSome out.old (logged_of self.now.service (below_barrier barrier.0 self.now.messages)) out.new) }
     {
         copy_below(&self.held, self.service, barrier, out)
@@ -91,6 +115,18 @@ impl Reorder {
     {
         drop_below(&mut self.held, barrier);
         self.barrier = barrier;
+    }
+
+    /// Moves the messages below the barrier to the end of the log. After `NoMemory` all are still held, and copies of some were appended.
+    pub fn pass(&mut self, barrier: Ts, out: &mut LoggedList) -> Result<(), NoMemory>
+        ensures logged { OnOk result (out.new ≡ out.old ++ logged_of self.old.service (below_barrier barrier.0 self.old.messages)) }
+        ensures left { OnOk result (self.new ≡ record self.old { barrier = barrier.0; messages = from_barrier barrier.0 self.old.messages }) }
+        ensures err { OnErr result (self.new ≡ self.old) }
+        ensures some { OnErr result (AppendsSome out.old (logged_of self.old.service (below_barrier barrier.0 self.old.messages)) out.new) }
+    {
+        self.copy_passed(barrier, out)?;
+        self.drop_passed(barrier);
+        Ok(())
     }
 }
 
@@ -118,7 +154,7 @@ fn drop_below(held: &mut BTreeMap<Key, Body>, barrier: Ts)
     ensures { held.new.entries ≡ from_barrier barrier.0 held.old.entries }
 {
     'entries: while let Some((key, _)) = held.first_key_value() {
-        if key.ts.0 >= barrier.0 {
+        if barrier.0 <= key.ts.0 {
             return;
         }
         let _ = held.pop_first();
