@@ -15,5 +15,5 @@ returns-clause-early c =
     let IsEarly : List (Service × Entry) → Type 0 = λ es. All (λ e. e.1.key.ts.0 < b) es in
     on_ok_weaker c.copy_below.result
     (λ (is : c.copy_below.new.out ≡ c.args.out.now ++ entries) (early : IsEarly c.args.out.now).
-      subst IsEarly (sym is) (All-append (λ (e : Service × Entry). e.1.key.ts.0 < b) c.args.out.now entries early (logged-below c.self.inside.service b held)))
+    subst IsEarly (sym is) (All-append (λ (e : Service × Entry). e.1.key.ts.0 < b) c.args.out.now entries early (logged-below c.self.inside.service b held)))
     c.copy_below.ensures.ok
