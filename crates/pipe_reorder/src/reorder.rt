@@ -211,13 +211,11 @@ mod tests {
         let late = Fate::Late { barrier: Ts(105) };
         assert_eq!(rt; held.place(message(rt.alloc(), 104, 2)?)?, late);
         assert_eq!(rt; held.place(message(rt.alloc(), 105, 2)?)?, Fate::Held);
-        passes(
-            &rt,
-            &mut held,
-            106,
-            [(105, 0), (105, 1), (105, 2)].as_slice(),
-            0,
-        )?;
+        let logged = passed(rt.alloc(), &mut held, 106)?;
+        assert_eq!(rt;
+            logged.as_slice(),
+            [(105, 0), (105, 1), (105, 2)].as_slice()
+        );
         assert_eq!(rt; held.len(), 0);
         Ok(())
     }
