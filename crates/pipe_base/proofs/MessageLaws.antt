@@ -14,7 +14,7 @@ use Rattle.std.proofs.lemmas.Map.Keys.{sorted_head, sorted_tail}
 use Rattle.pipe_base.specs.declared.message.Entry.{Entry}
 use Rattle.pipe_base.specs.declared.message.Key.{Key}
 use Rattle.pipe_base.specs.declared.message.Service.{Service}
-use Rattle.pipe_base.specs.Messages.{Messages, key_cmp, Before, IsInOrder, with_message, without_message, same_key, has_key, from_barrier, below_barrier, entry_of, logged_of}
+use Rattle.pipe_base.specs.Messages.{Messages, key_cmp, Before, IsInOrder, with_message, without_message, same_key, has_key, from_barrier, below_barrier, entry_of, logged_of, AreBelow}
 use Rattle.pipe_base.proofs.KeyOrder.{less_before, equal_same, greater_after, same_numbers}
 
 -- ---- filters
@@ -276,6 +276,6 @@ removed_is k (m ∷ ms) order =
     ∙ removed_by k m ms order (removed_is k ms order.1) (same_key m.0 k) refl
 
 -- what is logged is below the barrier: one more than its timestamp is at most the barrier
-pub logged-below : (service : Service) (b : ℕ) (ms : Messages) → All (λ e. e.1.key.ts.0 < b) (logged_of service (below_barrier b ms))
+pub logged-below : (service : Service) (b : ℕ) (ms : Messages) → AreBelow b (logged_of service (below_barrier b ms))
 logged-below service b ms =
     All-map (λ (e : Service × Entry). e.1.key.ts.0 < b) (λ (m : Key × List ℕ). (service, entry_of m)) (below_barrier b ms) (below-all b ms)

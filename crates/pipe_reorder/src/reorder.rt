@@ -1,15 +1,17 @@
 // The held messages of one service.
-ghost use Rattle.std.specs.Prelude.{◌≡◌, ◌<◌, ◌++◌, ℕ, List, length, false, All, IfOk, OnOk, OnErr};
-ghost use Rattle.pipe_base.specs.Messages.{Messages, IsInOrder, with_message, without_message, has_key, from_barrier, below_barrier, logged_of};
-ghost use Rattle.pipe_reorder.specs.Buffer.{Buffer, empty_buffer, fate_of, with_placed, AppendsSome};
+ghost use Rattle.std.specs.Prelude.{◌≡◌, ◌++◌, ℕ, List, length, false, IfOk, OnOk, OnErr};
+ghost use Rattle.pipe_base.specs.Messages.{IsInOrder, has_key, from_barrier, below_barrier, logged_of, AreBelow};
+ghost use Rattle.pipe_reorder.specs.Buffer.{Buffer, empty_buffer, buffer_with, buffer_without, passed_by, left_by};
+ghost use Rattle.pipe_reorder.specs.Buffer.{message_key, placed_fate, with_placed, AppendsSome};
 
 use pipe_base::{Body, Entry, Fate, Key, LoggedList, Message, NoMemory, Service, Ts};
 use std::alloc::Global;
 use std::collections::BTreeMap;
 use std::marker::Model;
 
-/// The messages of a service that a host holds, and the barrier that passed last.
-#[derive(Drop)]
+/// The messages of a service that a host holds in the total order, and the barrier that passed
+/// last.
+#[derive(Clone, Debug, Drop)]
 pub struct Reorder {
     service: Service,
     barrier: Ts,
@@ -18,11 +20,11 @@ pub struct Reorder {
 
 impl Model for Reorder {
     ghost use Rattle.pipe_base.specs.Messages.{IsInOrder};
-    ghost use Rattle.pipe_reorder.specs.Buffer.{Buffer};
+    ghost use Rattle.pipe_reorder.specs.Buffer.{Buffer, buffer_of};
 
     ghost Value = { Buffer };
 
-    ghost view = { λ r. record { service = r.service; barrier = r.barrier.0; messages = r.held.entries } };
+    ghost view = { λ r. buffer_of r.service r.barrier r.held.entries };
 
     ghost invariant = { λ r. IsInOrder r.held.entries };
 }
@@ -63,25 +65,27 @@ impl Reorder {
 
     /// Holds a message, in the place of one with its key.
     pub fn hold(&mut self, key: Key, body: Body) -> Result<(), NoMemory>
-        ensures ok { OnOk result (self.new ≡ record self.old { messages = with_message key body self.old.messages }) }
+        ensures ok { OnOk result (self.new ≡ buffer_with key body self.old) }
         ensures err { OnErr result (self.new ≡ self.old) }
     {
         self.held.insert(key, body)?;
         Ok(())
     }
 
-    /// Holds the message with this key no more: the way back from a `hold` of a key that was not held. Takes no memory.
+    /// Holds the message with this key no more: the way back from a `hold` of a key that was not
+    /// held. Takes no memory.
     pub fn unhold(&mut self, key: Key)
-        ensures removes { self.new ≡ record self.old { messages = without_message key self.old.messages } }
-        ensures undoes { (messages : Messages) (body : List ℕ) → has_key key messages ≡ false → self.old.messages ≡ with_message key body messages → self.new.messages ≡ messages }
+        ensures removes { self.new ≡ buffer_without key self.old }
+        ensures undoes { (before : Buffer) (body : List ℕ) → has_key key before.messages ≡ false
+            → self.old ≡ buffer_with key body before → self.new ≡ before }
     {
         let _ = self.held.remove(&key);
     }
 
     /// Gives a message of this service its fate, and holds it where that is `Held`.
     pub fn place(&mut self, message: Message) -> Result<Fate, NoMemory>
-        ensures fate { IfOk result (λ fate. fate ≡ fate_of self.old message.ts message.src) }
-        ensures held { IfOk result (λ fate. self.new ≡ with_placed fate message.ts message.src message.body self.old) }
+        ensures fate { IfOk result (λ fate. fate ≡ placed_fate (message_key message) self.old) }
+        ensures held { IfOk result (λ fate. self.new ≡ with_placed fate (message_key message) message.body self.old) }
         ensures err { OnErr result (self.new ≡ self.old) }
     {
         let key = Key {
@@ -100,29 +104,37 @@ impl Reorder {
         Ok(Fate::Held)
     }
 
-    /// Appends the held messages below the barrier, in the total order. After `NoMemory` some of them were appended.
+    /// Appends the held messages below the barrier, in the total order. After `NoMemory` some
+    /// first ones of them were appended.
     pub fn copy_passed(&self, barrier: Ts, out: &mut LoggedList) -> Result<(), NoMemory>
-        ensures ok { OnOk result (out.new ≡ out.old ++ logged_of self.now.service (below_barrier barrier.0 self.now.messages)) }
-        ensures early { OnOk result (All (λ e. e.1.key.ts.0 < barrier.0) out.old → All (λ e. e.1.key.ts.0 < barrier.0) out.new) }
-        ensures err { OnErr result (AppendsSome out.old (logged_of self.now.service (below_barrier barrier.0 self.now.messages)) out.new) }
+        ensures ok { OnOk result (out.new ≡ out.old ++ passed_by barrier.0 self.now) }
+        ensures early { OnOk result (AreBelow barrier.0 out.old → AreBelow barrier.0 out.new) }
+        ensures err { OnErr result (AppendsSome out.old (passed_by barrier.0 self.now) out.new) }
     {
         copy_below(&self.held, self.service, barrier, out)
     }
 
     /// Holds the messages below the barrier no more. Takes no memory.
     pub fn drop_passed(&mut self, barrier: Ts)
-        ensures { self.new ≡ record self.old { barrier = barrier.0; messages = from_barrier barrier.0 self.old.messages } }
+        ensures { self.new ≡ left_by barrier.0 self.old }
     {
         drop_below(&mut self.held, barrier);
         self.barrier = barrier;
     }
 
-    /// Moves the messages below the barrier to the end of the log. After `NoMemory` all are still held, and copies of some were appended.
+    pub fn try_clone(&self) -> Result<Reorder, NoMemory>
+        ensures { IfOk result (λ copy. copy ≡ self.now) }
+    {
+        Ok(self.clone()?)
+    }
+
+    /// Moves the messages below the barrier to the end of the log. After `NoMemory` all are still
+    /// held, and copies of some first ones were appended.
     pub fn pass(&mut self, barrier: Ts, out: &mut LoggedList) -> Result<(), NoMemory>
-        ensures logged { OnOk result (out.new ≡ out.old ++ logged_of self.old.service (below_barrier barrier.0 self.old.messages)) }
-        ensures left { OnOk result (self.new ≡ record self.old { barrier = barrier.0; messages = from_barrier barrier.0 self.old.messages }) }
+        ensures logged { OnOk result (out.new ≡ out.old ++ passed_by barrier.0 self.old) }
+        ensures left { OnOk result (self.new ≡ left_by barrier.0 self.old) }
         ensures err { OnErr result (self.new ≡ self.old) }
-        ensures some { OnErr result (AppendsSome out.old (logged_of self.old.service (below_barrier barrier.0 self.old.messages)) out.new) }
+        ensures some { OnErr result (AppendsSome out.old (passed_by barrier.0 self.old) out.new) }
     {
         self.copy_passed(barrier, out)?;
         self.drop_passed(barrier);
@@ -136,8 +148,10 @@ fn copy_below(
     barrier: Ts,
     out: &mut LoggedList,
 ) -> Result<(), NoMemory>
-    ensures ok { OnOk result (out.new ≡ out.old ++ logged_of service (below_barrier barrier.0 held.now.entries)) }
-    ensures err { OnErr result (AppendsSome out.old (logged_of service (below_barrier barrier.0 held.now.entries)) out.new) }
+    ensures ok { let passed = logged_of service (below_barrier barrier.0 held.now.entries) in
+        OnOk result (out.new ≡ out.old ++ passed) }
+    ensures err { let passed = logged_of service (below_barrier barrier.0 held.now.entries) in
+        OnErr result (AppendsSome out.old passed out.new) }
 {
     'entries: for (key, body) in held {
         if key.ts.0 >= barrier.0 {
