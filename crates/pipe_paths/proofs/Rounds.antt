@@ -1,13 +1,13 @@
 -- As many links as there are nodes suffice to lead on: each round finds a new node, or no later round does.
-use Rattle.std.proofs.Common.{◌≡◌, ℕ, zero, suc, ◌+◌, ◌<◌, ◌≤◌, ◌==◌, Bool, true, false, ◌&&◌, not, List, [], ◌∷◌, ◌⊎◌, inl, inr, refl, sym, subst, ◌∙◌, true≢false, arith}
+use Rattle.std.proofs.Common.{◌≡◌, ℕ, zero, suc, ◌+◌, ◌<◌, ◌≤◌, ◌==◌, Bool, true, false, ◌&&◌, not, List, [], ◌∷◌, ◌⊎◌, inl, inr, refl, sym, subst, ◌∙◌, true≢false, arith, ◌++◌}
 use Rattle.std.proofs.lemmas.Bool.{eq-eqb}
 use Rattle.pipe_base.specs.Below.{any_below}
-use Rattle.pipe_base.specs.Graph.{Graph, IsGraph, head_of, is_half}
+use Rattle.pipe_base.specs.Graph.{Graph, IsGraph, tail_of, head_of, is_half}
 use Rattle.pipe_base.specs.Path.{Leads, IsPath}
-use Rattle.pipe_base.specs.Reach.{goes_on, leads_within, reaches}
-use Rattle.pipe_paths.proofs.Tests.{and_parts, and_both, or_right, not_is, not_gives}
+use Rattle.pipe_base.specs.Reach.{goes_on, leads_within, reaches, feeds}
+use Rattle.pipe_paths.proofs.Tests.{and_parts, and_both, or_left, or_right, not_is, not_gives}
 use Rattle.pipe_paths.proofs.BelowLaws.{any_below_gives, none_below, count_below, count_gains, count_most}
-use Rattle.pipe_paths.proofs.PathLaws.{path_end}
+use Rattle.pipe_paths.proofs.PathLaws.{path_end, path_to_link}
 use Rattle.pipe_paths.proofs.ReachLaws.{goes_on_gives, goes_on_from, within_leads, leads_is_within, within_later}
 
 -- the round after k finds no new node
@@ -86,3 +86,11 @@ is_reach g by a b [] graph path = absurd path
 is_reach g by a b (l ∷ ls) graph path =
     goes_on_from g by a (leads_within g by b g.nodes) l path.0
     (rounds_suffice g by b (head_of g l) ls graph (path_end g by a b (l ∷ ls) graph path) path.1)
+
+pub fed_along : (g : Graph) (by : ℕ → Bool) (a b l : ℕ) (before after : List ℕ) → IsGraph g → IsPath g by a b (before ++ l ∷ after) → feeds g by a l ≡ true
+fed_along g by a b l before after graph path =
+    elim (path_to_link g by a b l before after path) [
+      inl first ↦ or_left (a == tail_of g l) (is_half g (tail_of g l) && reaches g by a (tail_of g l)) (eq-eqb a (tail_of g l) first)
+    | inr later ↦ or_right (a == tail_of g l) (is_half g (tail_of g l) && reaches g by a (tail_of g l))
+        (and_both (is_half g (tail_of g l)) (reaches g by a (tail_of g l)) later.0 (is_reach g by a (tail_of g l) before graph later.1))
+    ]

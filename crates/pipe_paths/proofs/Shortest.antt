@@ -47,7 +47,7 @@ begins_gives g by n dst l lt begins h =
     }
 
 -- a shortest path has at most one link more than there are nodes
-rest_few : (g : Graph) (by : ℕ → Bool) (n dst l : ℕ) → IsGraph g → (is : BeginsShortest g by n dst l) → length is.rest ≤ g.nodes
+pub rest_few : (g : Graph) (by : ℕ → Bool) (n dst l : ℕ) → IsGraph g → (is : BeginsShortest g by n dst l) → length is.rest ≤ g.nodes
 rest_few g by n dst l graph is =
     let within = rounds_suffice g by dst (head_of g l) is.rest graph (path_end g by n dst (l ∷ is.rest) graph is.path) is.path.1 in
     let way = within_leads g by dst g.nodes (head_of g l) within in

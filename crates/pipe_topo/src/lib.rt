@@ -4,6 +4,7 @@
 
 mod apart;
 mod build;
+mod distances;
 mod fault;
 mod links;
 mod names;
@@ -14,6 +15,7 @@ mod tables;
 mod topology;
 mod walk;
 
+pub use distances::{Distances, FAR};
 pub use fault::{TopoFault, What};
 pub use links::LinkSet;
 pub use names::Names;

@@ -4,7 +4,7 @@ use Rattle.pipe_base.specs.declared.name.NodeId.{NodeId}
 use Rattle.pipe_topo.specs.Sets.{has}
 use Rattle.pipe_topo.specs.Walk.{IsWalk, far, node_id}
 use Rattle.pipe_topo.proofs.WalkLaws.{walk_start, walk_is_right}
-use Rattle.pipe_topo.proofs.walk.distances.Goals as goal
+use Rattle.pipe_topo.proofs.walk.walk_back.Goals as goal
 
 pub loop-node-init : goal.loop-node-init
 loop-node-init c =
