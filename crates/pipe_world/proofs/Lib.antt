@@ -1,0 +1,4 @@
+pub mod Lists
+pub mod StarGraph
+pub mod Tables
+pub mod WaitingLists
