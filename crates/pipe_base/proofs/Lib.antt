@@ -1,1 +1,3 @@
+pub mod BarrierLaws
+pub mod KeyOrder
 pub mod Slices

@@ -1,5 +1,5 @@
 -- Messages that a host holds: pairs of a key and a body, in the total order.
-use Rattle.std.specs.Prelude.{ℕ, ◌==◌, ◌&&◌, nat_lt, nat_le, Bool, List, filter}
+use Rattle.std.specs.Prelude.{◌≡◌, ◌⊎◌, ℕ, ◌<◌, ◌==◌, ◌&&◌, nat_lt, nat_le, Bool, List, [], ◌∷◌, filter, All}
 use Rattle.std.specs.List.{list_any}
 use Rattle.std.specs.Ordering.{nat_cmp, ordering_then}
 use Rattle.std.specs.declared.cmp.Ordering.{Ordering}
@@ -13,6 +13,15 @@ Messages = List (Key × List ℕ)
 -- the total order: by timestamp, then by sender
 abbrev pub key_cmp : Key → Key → Ordering
 key_cmp a b = ordering_then (nat_cmp a.ts.0 b.ts.0) (nat_cmp a.src.0 b.src.0)
+
+-- one key comes before another: by timestamp, then by sender
+abbrev pub Before : Key → Key → Type 0
+Before a b = (a.ts.0 < b.ts.0) ⊎ ((a.ts.0 ≡ b.ts.0) × (a.src.0 < b.src.0))
+
+-- each message comes before all that follow it
+abbrev pub IsInOrder : Messages → Type 0
+IsInOrder [] = Unit {0}
+IsInOrder (m ∷ ms) = All (λ n. Before m.0 n.0) ms × IsInOrder ms
 
 -- the messages with one more, at its place in the order
 abbrev pub with_message : Key → List ℕ → Messages → Messages

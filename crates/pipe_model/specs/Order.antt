@@ -1,21 +1,17 @@
 -- The order that the channel keeps: logs rise, stamps are above what was logged, and what is logged was sent.
-use Rattle.std.specs.Prelude.{◌≡◌, ◌⊎◌, ℕ, ◌<◌, List, [], ◌∷◌, All, Any, Option, None, Some, IfSome, true, Contains}
+use Rattle.std.specs.Prelude.{◌≡◌, ◌⊎◌, ℕ, ◌<◌, List, [], ◌∷◌, All, Option, None, Some, IfSome, true, Contains}
 use Rattle.pipe_base.specs.declared.name.HostId.{HostId}
 use Rattle.pipe_base.specs.declared.message.Entry.{Entry}
-use Rattle.pipe_base.specs.declared.message.Key.{Key}
 use Rattle.pipe_base.specs.declared.message.Service.{Service}
 use Rattle.pipe_base.specs.declared.message.Service.TheVariants.{BestEffort, Reliable}
 use Rattle.pipe_base.specs.declared.step.Outcome.TheVariants.{Ok}
 use Rattle.pipe_base.specs.Graph.{Graph}
+use Rattle.pipe_base.specs.Messages.{Before}
 use Rattle.pipe_model.specs.declared.event.Event.{Event}
 use Rattle.pipe_model.specs.declared.event.Event.TheVariants.{Send, Tick, Take, Lose, ControlTake, ControlLose, Decide, Crash, Cut}
 use Rattle.pipe_model.specs.declared.record.Record.{Record}
 use Rattle.pipe_model.specs.Acting.{is_own, own}
 use Rattle.pipe_model.specs.Logged.{log, entries_of}
-
--- one key comes before another: by timestamp, then by sender
-abbrev pub Before : Key → Key → Type 0
-Before a b = (a.ts.0 < b.ts.0) ⊎ ((a.ts.0 ≡ b.ts.0) × (a.src.0 < b.src.0))
 
 -- each entry comes before all that follow it
 abbrev pub IsRising : List Entry → Type 0
@@ -59,7 +55,8 @@ pub record IsSendOf (service : Service) (host : ℕ) (entry : Entry) (r : Record
 
 -- some record of the history is the send of this entry
 abbrev pub WasSent : Service → ℕ → Entry → List Record → Type 0
-WasSent service host entry past = Any (IsSendOf service host entry) past
+WasSent service host entry [] = ⊥
+WasSent service host entry (r ∷ past) = IsSendOf service host entry r ⊎ WasSent service host entry past
 
 -- what a record of this node puts into its log of a service was sent to it before
 abbrev pub LoggedWasSent : Graph → ℕ → Service → Record → List Record → Type 0
