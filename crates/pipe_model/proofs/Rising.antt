@@ -1,17 +1,14 @@
 -- Barriers never fall.
-use Rattle.std.proofs.Common.{◌≡◌, ℕ, ◌≤◌, max, Bool, true, false, List, [], ◌∷◌, Option, None, Some, refl, arith, if◌then◌else◌}
+use Rattle.std.proofs.Common.{ℕ, ◌≤◌, max, Bool, true, false, List, [], ◌∷◌, Option, None, Some, arith, if◌then◌else◌}
 use Rattle.pipe_base.specs.declared.name.LinkId.{LinkId}
 use Rattle.pipe_base.specs.declared.name.Ts.{Ts}
 use Rattle.pipe_base.specs.declared.packet.Packet.{Packet}
 use Rattle.pipe_base.specs.declared.packet.Plane.{Plane}
-use Rattle.pipe_base.specs.declared.step.Step.{Step}
 use Rattle.pipe_base.specs.Graph.{Graph, ins_of}
 use Rattle.pipe_base.specs.Moment.{Moment, WentDown, Dropped}
 use Rattle.pipe_base.specs.Barrier.{barrier, level, is_look}
-use Rattle.pipe_model.specs.declared.event.Event.{Event}
 use Rattle.pipe_model.specs.declared.record.Record.{Record}
-use Rattle.pipe_model.specs.declared.record.Took.{Took}
-use Rattle.pipe_model.specs.Moments.{with_received, with_downed, with_dropped, moments_after, moments_of, receipt, barrier_at, received_of, keeps_links}
+use Rattle.pipe_model.specs.Moments.{with_received, with_downed, with_dropped, moments_of, receipt, barrier_at, received_of, keeps_links}
 
 looked : (b : Bool) (before now : ℕ) → before ≤ (if b then max before now else before)
 looked true before now = omega arith

@@ -1,5 +1,5 @@
 -- Which node acts in an event, and what a node did by itself.
-use Rattle.std.specs.Prelude.{ℕ, ◌==◌, ◌&&◌, ◌||◌, not, Bool, true, false, List, filter}
+use Rattle.std.specs.Prelude.{ℕ, ◌==◌, ◌&&◌, not, Bool, true, false, List, filter}
 use Rattle.pipe_base.specs.declared.control.To.{To}
 use Rattle.pipe_base.specs.declared.control.To.TheVariants.{Controller, Node}
 use Rattle.pipe_base.specs.declared.step.Outcome.{Outcome}

@@ -1,5 +1,5 @@
 -- Which packets a node owes in a record, and the two barriers that they carry.
-use Rattle.std.specs.Prelude.{ℕ, ◌+◌, ◌==◌, ◌&&◌, not, if◌then◌else◌, Bool, true, false, List, [], ◌∷◌, ◌++◌, Option, None, Some, map, filter, count_by, is_none}
+use Rattle.std.specs.Prelude.{ℕ, ◌==◌, ◌&&◌, not, if◌then◌else◌, Bool, true, false, List, [], ◌∷◌, ◌++◌, Option, None, Some, map, filter, count_by, is_none}
 use Rattle.std.specs.List.{list_any}
 use Rattle.pipe_base.specs.declared.name.HostId.{HostId}
 use Rattle.pipe_base.specs.declared.name.LinkId.{LinkId}
@@ -8,7 +8,6 @@ use Rattle.pipe_base.specs.declared.control.Addressed.{Addressed}
 use Rattle.pipe_base.specs.declared.packet.Packet.{Packet}
 use Rattle.pipe_base.specs.declared.packet.PacketKind.{PacketKind}
 use Rattle.pipe_base.specs.declared.packet.PacketKind.TheVariants.{Beacon, Plain, Prepare, Ack, Recall, RecallAck}
-use Rattle.pipe_base.specs.declared.packet.Plane.{Plane}
 use Rattle.pipe_base.specs.declared.packet.Plane.TheVariants as plane
 use Rattle.pipe_base.specs.Graph.{Graph, is_host, is_half, outs_of}
 use Rattle.pipe_base.specs.Route.{route}

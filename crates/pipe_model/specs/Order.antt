@@ -1,6 +1,5 @@
 -- The order that the channel keeps: logs rise, stamps are above what was logged, and what is logged was sent.
-use Rattle.std.specs.Prelude.{◌≡◌, ◌⊎◌, ℕ, ◌<◌, List, [], ◌∷◌, All, Option, None, Some, IfSome, true, Contains}
-use Rattle.pipe_base.specs.declared.name.HostId.{HostId}
+use Rattle.std.specs.Prelude.{◌≡◌, ◌⊎◌, ℕ, ◌<◌, List, [], ◌∷◌, All, Some, IfSome, true, Contains}
 use Rattle.pipe_base.specs.declared.message.Entry.{Entry}
 use Rattle.pipe_base.specs.declared.message.Service.{Service}
 use Rattle.pipe_base.specs.declared.message.Service.TheVariants.{BestEffort, Reliable}

@@ -1,16 +1,16 @@
 -- The outcome of an event, and what it takes.
-use Rattle.std.specs.Prelude.{ℕ, ◌<◌, nat_lt, if◌then◌else◌, List, length, Option, None, Some, slice_get}
+use Rattle.std.specs.Prelude.{ℕ, nat_lt, if◌then◌else◌, List, length, Option, None, Some, slice_get}
 use Rattle.pipe_base.specs.declared.name.LinkId.{LinkId}
 use Rattle.pipe_base.specs.declared.packet.Packet.{Packet}
 use Rattle.pipe_base.specs.declared.step.Outcome.{Outcome}
-use Rattle.pipe_base.specs.declared.step.Outcome.TheVariants.{Ok, DestFailed, Window, ClockEnd, Crashed, NoItem, Ignored}
+use Rattle.pipe_base.specs.declared.step.Outcome.TheVariants.{Ok, NoItem}
 use Rattle.pipe_base.specs.Graph.{Graph}
 use Rattle.pipe_model.specs.declared.event.Event.{Event}
 use Rattle.pipe_model.specs.declared.event.Event.TheVariants.{Send, Tick, Take, Lose, ControlTake, ControlLose, Decide, Crash, Cut}
 use Rattle.pipe_model.specs.declared.record.Record.{Record}
 use Rattle.pipe_model.specs.declared.record.Took.{Took}
-use Rattle.pipe_model.specs.declared.record.Took.TheVariants.{Nothing, Link, Message}
-use Rattle.pipe_model.specs.Acting.{own, is_idle}
+use Rattle.pipe_model.specs.declared.record.Took.TheVariants.{Nothing, Link}
+use Rattle.pipe_model.specs.Acting.{own}
 use Rattle.pipe_model.specs.Clock.{send_outcome, next}
 use Rattle.pipe_model.specs.Waiting.{waiting_on}
 

@@ -1,5 +1,5 @@
 -- A star: hosts around one switch.
-use Rattle.std.specs.Prelude.{ℕ, ◌+◌, ◌*◌, List, [], ◌∷◌, ◌++◌, zero, suc}
+use Rattle.std.specs.Prelude.{ℕ, ◌+◌, List, [], ◌∷◌, ◌++◌, zero, suc}
 use Rattle.pipe_base.specs.declared.name.Link.{Link}
 use Rattle.pipe_base.specs.Graph.{Graph}
 

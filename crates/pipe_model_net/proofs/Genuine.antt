@@ -1,0 +1,129 @@
+-- What a host holds, and so what it logs, was sent to it with that body.
+use Rattle.std.proofs.Common.{◌≡◌, ℕ, ◌==◌, ◌&&◌, if◌then◌else◌, Bool, true, false, List, [], ◌∷◌, Option, None, Some, map, refl, inr, sym, subst, ap, ◌∙◌}
+use Rattle.std.specs.List.{All}
+use Rattle.std.proofs.lemmas.List.Elements.{All-nil, All-map, All-weaker, All-filter}
+use Rattle.pipe_base.specs.declared.message.Entry.{Entry}
+use Rattle.pipe_base.specs.declared.message.Key.{Key}
+use Rattle.pipe_base.specs.declared.message.Service.{Service}
+use Rattle.pipe_base.specs.declared.message.Service.TheVariants.{BestEffort, Reliable}
+use Rattle.pipe_base.specs.declared.packet.Packet.{Packet}
+use Rattle.pipe_base.specs.declared.packet.PacketKind.{PacketKind}
+use Rattle.pipe_base.specs.declared.packet.PacketKind.TheVariants.{Beacon, Plain, Prepare, Ack, Recall, RecallAck}
+use Rattle.pipe_base.specs.declared.step.Fate.{Fate}
+use Rattle.pipe_base.specs.declared.step.Fate.TheVariants.{Held, Repeat, Late, Discarded, Recalled}
+use Rattle.pipe_base.specs.Graph.{Graph, is_host}
+use Rattle.pipe_base.specs.Messages.{Messages, entry_of, from_barrier}
+use Rattle.pipe_base.proofs.KeyOrder.{insert_all}
+use Rattle.pipe_model.specs.declared.record.Record.{Record}
+use Rattle.pipe_model.specs.Acting.{is_own, own}
+use Rattle.pipe_model.specs.Fate.{key_of, carries, got_of, got, fate_of, with_held, held, plane_of}
+use Rattle.pipe_model.specs.Logged.{passed_in, entries_of}
+use Rattle.pipe_model.specs.Moments.{received, moments_of, barrier_at}
+use Rattle.pipe_model.specs.Order.{WasSent, LoggedWasSent, IsGenuine}
+use Rattle.pipe_model.specs.Run.{IsHistory, IsStep}
+use Rattle.pipe_model.proofs.Entries.{best_entries, no_entries}
+use Rattle.pipe_model.proofs.Own.{own_more, own_same}
+use Rattle.pipe_model_net.proofs.Packets.{took_waited, at_place}
+use Rattle.pipe_model_net.proofs.Sent.{IsSent, entry_from, received_took, same_number, waiting_sent}
+use Rattle.pipe_model.specs.Waiting.{waiting_on}
+
+-- a message of a host was sent to it
+abbrev pub SentTo : ℕ → List Record → (Key × List ℕ) → Type 0
+SentTo node past m = WasSent BestEffort node (entry_of m) past
+
+-- the message that a record brings is addressed to the node and a best-effort one
+pub record Brings (node : ℕ) (q : ℕ × Packet) (p : Packet) : Type 0 where
+  pub same : q.1 ≡ p
+  pub dst : p.dst.0 ≡ node
+  pub kind : p.kind ≡ Plain
+
+plain_of : (k : PacketKind) → carries BestEffort k ≡ true → k ≡ Plain
+plain_of Beacon is = cc
+plain_of Plain is = refl
+plain_of Prepare is = cc
+plain_of Ack is = cc
+plain_of Recall is = cc
+plain_of RecallAck is = cc
+
+-- (a && (b && c)) is a test of all three
+brought_by : (a b c : Bool) (node : ℕ) (q : ℕ × Packet) (p : Packet) → (q.1.dst.0 == node) ≡ b → carries BestEffort q.1.kind ≡ c
+    → (if a && (b && c) then Some q.1 else None) ≡ Some p → Brings node q p
+brought_by true true true node q p dst kind is =
+    let same : q.1 ≡ p = cc in
+    record { same = same; dst = ap (λ (x : Packet). x.dst.0) (sym same) ∙ same_number q.1.dst.0 node dst; kind = ap (λ (x : Packet). x.kind) (sym same) ∙ plain_of q.1.kind kind }
+brought_by true true false node q p dst kind is = cc
+brought_by true false c node q p dst kind is = cc
+brought_by false b c node q p dst kind is = cc
+
+brings : (graph : Graph) (node : ℕ) (q : ℕ × Packet) (p : Packet) → got_of BestEffort graph node (Some q) ≡ Some p → Brings node q p
+brings graph node q p is = brought_by (is_host graph node) (q.1.dst.0 == node) (carries BestEffort q.1.kind) node q p refl refl is
+
+-- the message that a record brings was sent before
+got_sent : (graph : Graph) (past : List Record) (r : Record) (n : ℕ) (o : Option (ℕ × Packet)) (p : Packet) → IsHistory graph past → IsStep graph past r
+    → received (own graph n past) r ≡ o → got_of BestEffort graph n o ≡ Some p → SentTo n past (key_of p, p.body)
+got_sent graph past r n None p run step is got = cc
+got_sent graph past r n (Some q) p run step is got =
+    let b = brings graph n q p got in
+    let took = received_took (moments_of (own graph n past)) r.event r.took q is in
+    let w = took_waited graph past r took.0 q.1 step took.1 in
+    let sent : IsSent past q.1 = at_place (IsSent past) (waiting_on w.link past) w.place q.1 (waiting_sent graph past run w.link) w.waited in
+    let sent_p : IsSent past p = subst (IsSent past) b.same sent in
+    subst (λ (node : ℕ). WasSent BestEffort node (entry_from p) past) b.dst (sent_p b.kind)
+
+-- what holds of all held and of the new message, holds of all held after it
+held_more : (P : Key × List ℕ → Type 0) (f : Option Fate) (o : Option Packet) (ms : Messages) → All P ms → ((p : Packet) → o ≡ Some p → P (key_of p, p.body)) → All P (with_held f o ms)
+held_more P None o ms all new = all
+held_more P (Some Held) None ms all new = all
+held_more P (Some Held) (Some p) ms all new = insert_all P (key_of p) p.body ms (new p refl) all
+held_more P (Some Repeat) o ms all new = all
+held_more P (Some (Late b)) o ms all new = all
+held_more P (Some (Discarded t)) o ms all new = all
+held_more P (Some Recalled) o ms all new = all
+
+-- what a node holds in a record of its own was sent before that record
+held_sent_now : (graph : Graph) (past : List Record) (r : Record) (n : ℕ) → IsHistory graph past → IsStep graph past r
+    → All (SentTo n past) (held BestEffort graph n (own graph n past)) → All (SentTo n past) (held BestEffort graph n (r ∷ own graph n past))
+held_sent_now graph past r n run step before =
+    let o : List Record = own graph n past in
+    held_more (SentTo n past) (fate_of (barrier_at (plane_of BestEffort) graph n o) (held BestEffort graph n o) (got BestEffort graph n o r))
+    (got BestEffort graph n o r) (held BestEffort graph n o) before (λ p is. got_sent graph past r n (received o r) p run step refl is)
+
+later : (n : ℕ) (past : List Record) (r : Record) (ms : Messages) → All (SentTo n past) ms → All (SentTo n (r ∷ past)) ms
+later n past r ms all = All-weaker (SentTo n past) (SentTo n (r ∷ past)) (λ m sent. inr sent) ms all
+
+held_by : (graph : Graph) (past : List Record) (r : Record) (n : ℕ) (b : Bool) → is_own graph n r ≡ b → IsHistory graph past → IsStep graph past r
+    → All (SentTo n past) (held BestEffort graph n (own graph n past)) → All (SentTo n (r ∷ past)) (held BestEffort graph n (own graph n (r ∷ past)))
+held_by graph past r n true is run step before =
+    subst (λ (o : List Record). All (SentTo n (r ∷ past)) (held BestEffort graph n o)) (sym (own_more graph n r past is))
+    (later n past r (held BestEffort graph n (r ∷ own graph n past)) (held_sent_now graph past r n run step before))
+held_by graph past r n false isnt run step before =
+    subst (λ (o : List Record). All (SentTo n (r ∷ past)) (held BestEffort graph n o)) (sym (own_same graph n r past isnt))
+    (later n past r (held BestEffort graph n (own graph n past)) before)
+
+held_sent : (graph : Graph) (past : List Record) (n : ℕ) → IsHistory graph past → All (SentTo n past) (held BestEffort graph n (own graph n past))
+held_sent graph [] n run = All-nil (SentTo n [])
+held_sent graph (r ∷ past) n run = held_by graph past r n (is_own graph n r) refl run.0 run.1 (held_sent graph past n run.0)
+
+passed_sent : (graph : Graph) (past : List Record) (r : Record) (n : ℕ) → IsHistory graph past → IsStep graph past r
+    → All (SentTo n past) (passed_in BestEffort graph n (own graph n past) r)
+passed_sent graph past r n run step =
+    let o : List Record = own graph n past in
+    All-filter _ (SentTo n past) (from_barrier (barrier_at (plane_of BestEffort) graph n o) (held BestEffort graph n (r ∷ o)))
+    (All-filter _ (SentTo n past) (held BestEffort graph n (r ∷ o)) (held_sent_now graph past r n run step (held_sent graph past n run)))
+
+logged_sent : (graph : Graph) (past : List Record) (r : Record) (n : ℕ) (service : Service) → IsHistory graph past → IsStep graph past r → LoggedWasSent graph n service r past
+logged_sent graph past r n BestEffort run step mine =
+    let o : List Record = own graph n past in
+    let entries : entries_of BestEffort r.step.logged ≡ map entry_of (passed_in BestEffort graph n o r) =
+    ap (entries_of BestEffort) (step.node n mine).logged_is ∙ best_entries (passed_in BestEffort graph n o r) in
+    subst (λ (es : List Entry). All (λ (e : Entry). WasSent BestEffort n e past) es) (sym entries)
+    (All-map (λ (e : Entry). WasSent BestEffort n e past) entry_of (passed_in BestEffort graph n o r) (passed_sent graph past r n run step))
+logged_sent graph past r n Reliable run step mine =
+    let o : List Record = own graph n past in
+    let entries : entries_of Reliable r.step.logged ≡ [] =
+    ap (entries_of Reliable) (step.node n mine).logged_is ∙ no_entries (passed_in BestEffort graph n o r) in
+    subst (λ (es : List Entry). All (λ (e : Entry). WasSent Reliable n e past) es) (sym entries) (All-nil (λ (e : Entry). WasSent Reliable n e past))
+
+pub run_genuine : (graph : Graph) (past : List Record) → IsHistory graph past → IsGenuine graph past
+run_genuine graph [] run = tt
+run_genuine graph (r ∷ past) run = (run_genuine graph past run.0, λ n service. logged_sent graph past r n service run.0 run.1)

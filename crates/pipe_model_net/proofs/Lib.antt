@@ -1,0 +1,4 @@
+pub mod Acting
+pub mod Genuine
+pub mod Packets
+pub mod Sent

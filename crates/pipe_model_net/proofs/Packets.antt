@@ -1,0 +1,99 @@
+-- The principle of packets: what stays true along a run, and holds of each packet as it is put, holds of each that waits.
+use Rattle.std.proofs.Common.{◌≡◌, ℕ, ◌==◌, ◌&&◌, not, if◌then◌else◌, Bool, true, false, List, [], ◌∷◌, Option, None, Some, take, drop, refl, sym, subst, ◌∙◌, zero, suc}
+use Rattle.std.specs.List.{All, remove, slice_get}
+use Rattle.std.proofs.lemmas.List.Elements.{All-nil, All-cons, All-head, All-tail, All-append, All-take, All-drop, All-weaker}
+use Rattle.pipe_base.specs.declared.name.LinkId.{LinkId}
+use Rattle.pipe_base.specs.declared.packet.Packet.{Packet}
+use Rattle.pipe_base.specs.declared.step.Outcome.{Outcome}
+use Rattle.pipe_base.specs.Graph.{Graph}
+use Rattle.pipe_model.specs.declared.event.Event.{Event}
+use Rattle.pipe_model.specs.declared.event.Event.TheVariants.{Send, Tick, Take, Lose, ControlTake, ControlLose, Decide, Crash, Cut}
+use Rattle.pipe_model.specs.declared.record.Record.{Record}
+use Rattle.pipe_model.specs.declared.record.Took.TheVariants.{Link}
+use Rattle.pipe_model.specs.Acting.{is_idle}
+use Rattle.pipe_model.specs.Outcome.{took_of, took_at}
+use Rattle.pipe_model.specs.Run.{IsHistory, IsStep}
+use Rattle.pipe_model.specs.Waiting.{left_after, put_on, waiting_on}
+
+removed : (P : Packet → Type 0) (ps : List Packet) (place : ℕ) → All P ps → All P (remove ps place)
+removed P ps place all = All-append P (take place ps) (drop (suc place) ps) (All-take P place ps all) (All-drop P (suc place) ps all)
+
+chosen : (b : Bool) (P : Packet → Type 0) (ps qs : List Packet) → All P ps → All P qs → All P (if b then ps else qs)
+chosen true P ps qs all other = all
+chosen false P ps qs all other = other
+
+-- an event only takes from what waits
+pub left_all : (P : Packet → Type 0) (link : ℕ) (event : Event) (outcome : Outcome) (ps : List Packet) → All P ps → All P (left_after link event outcome ps)
+left_all P link (Send host service now dests) outcome ps all = all
+left_all P link (Tick node now) outcome ps all = all
+left_all P link (Take l place keep) outcome ps all = chosen ((l.0 == link) && (not keep && not (is_idle outcome))) P (remove ps place) ps (removed P ps place all) all
+left_all P link (Lose l place) outcome ps all = chosen ((l.0 == link) && not (is_idle outcome)) P (remove ps place) ps (removed P ps place all) all
+left_all P link (ControlTake place keep) outcome ps all = all
+left_all P link (ControlLose place) outcome ps all = all
+left_all P link Decide outcome ps all = all
+left_all P link (Crash node) outcome ps all = all
+left_all P link (Cut l) outcome ps all = all
+
+chosen_put : (b : Bool) (P : Packet → Type 0) (p : Packet) (ps : List Packet) → P p → All P ps → All P (if b then p ∷ ps else ps)
+chosen_put true P p ps here all = All-cons P p ps here all
+chosen_put false P p ps here all = all
+
+-- what was put on one link is among all that was put
+put_all : (P : Packet → Type 0) (link : ℕ) (puts : List (LinkId × Packet)) → All (λ q. P q.1) puts → All P (put_on link puts)
+put_all P link [] all = All-nil P
+put_all P link (q ∷ qs) all =
+    chosen_put (q.0.0 == link) P q.1 (put_on link qs) (All-head (λ (x : LinkId × Packet). P x.1) q qs all)
+    (put_all P link qs (All-tail (λ (x : LinkId × Packet). P x.1) q qs all))
+
+-- the packet that a record took from a link waited there
+pub record TookWaited (past : List Record) (r : Record) (p : Packet) : Type 0 where
+  pub link : ℕ
+  pub place : ℕ
+  pub waited : slice_get (waiting_on link past) place ≡ Some p
+
+found : (past : List Record) (r : Record) (link l : LinkId) (place : ℕ) (o : Option Packet) (p : Packet) → slice_get (waiting_on link.0 past) place ≡ o
+    → took_at link o ≡ Link l p → TookWaited past r p
+found past r link l place None p is took = cc
+found past r link l place (Some q) p is took =
+    let same : q ≡ p = cc in record { link = link.0; place = place; waited = rw is (rw same refl) }
+
+took_by : (past : List Record) (r : Record) (event : Event) (l : LinkId) (p : Packet) → took_of past event ≡ Link l p → TookWaited past r p
+took_by past r (Send host service now dests) l p took = cc
+took_by past r (Tick node now) l p took = cc
+took_by past r (Take link place keep) l p took = found past r link l place (slice_get (waiting_on link.0 past) place) p refl took
+took_by past r (Lose link place) l p took = cc
+took_by past r (ControlTake place keep) l p took = cc
+took_by past r (ControlLose place) l p took = cc
+took_by past r Decide l p took = cc
+took_by past r (Crash node) l p took = cc
+took_by past r (Cut link) l p took = cc
+
+pub took_waited : (graph : Graph) (past : List Record) (r : Record) (l : LinkId) (p : Packet) → IsStep graph past r → r.took ≡ Link l p → TookWaited past r p
+took_waited graph past r l p step took = took_by past r r.event l p (sym step.took_is ∙ took)
+
+-- at a place where something waits, what holds of all holds of it
+pub at_place : (P : Packet → Type 0) (ps : List Packet) (place : ℕ) (p : Packet) → All P ps → slice_get ps place ≡ Some p → P p
+at_place P [] place p all is = cc
+at_place P (q ∷ qs) zero p all is = let same : q ≡ p = cc in subst P same (All-head P q qs all)
+at_place P (q ∷ qs) (suc place) p all is = at_place P qs place p (All-tail P q qs all) is
+
+-- what is asked of a property: it stays, and holds of what is put where it held of what was taken
+pub record IsKept (graph : Graph) (Q : List Record → Packet → Type 0) : Type 0 where
+  pub stays : (past : List Record) (r : Record) (p : Packet) → Q past p → Q (r ∷ past) p
+  pub starts : (past : List Record) (r : Record) → IsStep graph past r → ((l : LinkId) (p : Packet) → r.took ≡ Link l p → Q past p)
+      → All (λ q. Q (r ∷ past) q.1) r.step.put
+
+taken_keeps : (graph : Graph) (Q : List Record → Packet → Type 0) (past : List Record) (r : Record) (l : LinkId) (p : Packet)
+    → IsStep graph past r → ((link : ℕ) → All (Q past) (waiting_on link past)) → r.took ≡ Link l p → Q past p
+taken_keeps graph Q past r l p step waiting took =
+    let w = took_waited graph past r l p step took in at_place (Q past) (waiting_on w.link past) w.place p (waiting w.link) w.waited
+
+pub packets_keep : (graph : Graph) (Q : List Record → Packet → Type 0) → IsKept graph Q → (past : List Record) → IsHistory graph past
+    → (link : ℕ) → All (Q past) (waiting_on link past)
+packets_keep graph Q kept [] run link = All-nil (Q [])
+packets_keep graph Q kept (r ∷ past) run link =
+    let before : (k : ℕ) → All (Q past) (waiting_on k past) = packets_keep graph Q kept past run.0 in
+    All-append (Q (r ∷ past)) (left_after link r.event r.step.outcome (waiting_on link past)) (put_on link r.step.put)
+    (left_all (Q (r ∷ past)) link r.event r.step.outcome (waiting_on link past)
+    (All-weaker (Q past) (Q (r ∷ past)) (λ p. kept.stays past r p) (waiting_on link past) (before link)))
+    (put_all (Q (r ∷ past)) link r.step.put (kept.starts past r run.1 (λ l p took. taken_keeps graph Q past r l p run.1 before took)))
