@@ -1,2 +1,5 @@
 pub mod Network
+pub mod Node
+pub mod Puts
 pub mod Queues
+pub mod Work

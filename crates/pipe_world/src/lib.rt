@@ -3,7 +3,10 @@
 
 mod enter;
 mod network;
+mod node;
+mod puts;
 mod queue;
 mod queues;
+mod work;
 
 pub use network::Network;

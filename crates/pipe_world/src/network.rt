@@ -128,6 +128,12 @@ impl Network {
         node.0 < self.hosts
     }
 
+    pub fn is_half(&self, node: NodeId) -> bool
+        ensures { result ≡ is_half self.now node.0 }
+    {
+        node.0 >= self.hosts
+    }
+
     /// The link on which the node puts a packet, or None where there is no way.
     pub fn route(&self, node: NodeId, src: HostId, dst: HostId) -> Option<LinkId>
         requires { node.0 < self.now.nodes }

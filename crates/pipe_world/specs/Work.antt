@@ -1,0 +1,76 @@
+-- What a step does, in the words of what is kept.
+use Rattle.std.specs.Prelude.{◌≡◌, ℕ, ◌++◌, max, true, false, List, [], length, Option, None, Some}
+use Rattle.pipe_base.specs.declared.message.Service.TheVariants.{BestEffort}
+use Rattle.pipe_base.specs.declared.name.LinkId.{LinkId}
+use Rattle.pipe_base.specs.declared.packet.Packet.{Packet}
+use Rattle.pipe_base.specs.declared.step.Fate.{Fate}
+use Rattle.pipe_base.specs.declared.step.Fate.TheVariants.{Held, Repeat, Late, Discarded, Recalled}
+use Rattle.pipe_base.specs.Graph.{Graph}
+use Rattle.pipe_base.specs.Messages.{Messages, below_barrier, from_barrier, has_key, logged_of}
+use Rattle.pipe_base.specs.Moment.{Moment}
+use Rattle.pipe_barrier.specs.declared.registers.Barriers.{Barriers}
+use Rattle.pipe_barrier.specs.Registers.{AreBarriers}
+use Rattle.pipe_barrier.specs.Registers as registers
+use Rattle.pipe_model.specs.declared.event.Event.{Event}
+use Rattle.pipe_model.specs.declared.record.Record.{Record}
+use Rattle.pipe_model.specs.declared.record.Took.{Took}
+use Rattle.pipe_model.specs.declared.record.Took.TheVariants.{Nothing, Link, Message}
+use Rattle.pipe_model.specs.Clock.{next, next_after, stamped}
+use Rattle.pipe_model.specs.Duties.{Fields, routed, lost, owed_of, beacons_of}
+use Rattle.pipe_model.specs.Fate.{fate_of, got_of, key_of, with_held}
+use Rattle.pipe_model.specs.Moments.{received_of, with_received}
+use Rattle.pipe_world.specs.declared.node.Node.{Node}
+use Rattle.pipe_world.specs.declared.work.Work.{Work}
+use Rattle.pipe_world.specs.Puts.{fields_for}
+use Rattle.pipe_world.specs.Queues.{AreKnown}
+
+-- the record of an event that was worked out
+abbrev pub record_of : Event → Work → Record
+record_of event w = record { event = event; took = w.took; step = w.step }
+
+-- the packet that is received while all links are up
+abbrev pub received_in : Record → Option (ℕ × Packet)
+received_in r = received_of [] r.event r.took
+
+-- A step at a node: what it did, and its record, in the words of what was kept before. The message that it brought is held already.
+pub record IsWork (graph : Graph) (node : ℕ) (old mid : Node) (event : Event) (w : Work) : Type 0 where
+  pub barriers : Barriers
+  pub barriers_are : (ins : List LinkId) (past : List Moment) → registers.Stands ins old.registers past → AreBarriers ins (with_received true (received_in (record_of event w)) past) barriers
+  pub next_is : w.next.0 ≡ max old.next.0 (next_after (record_of event w))
+  pub downed_is : w.step.downed ≡ []
+  pub dropped_is : w.step.dropped ≡ []
+  pub noted_is : w.step.noted ≡ []
+  pub control_is : w.step.control ≡ []
+  pub stamped_is : (own : List Record) → next own ≡ old.next.0 → w.step.stamped ≡ stamped own event
+  pub fate_is : w.step.fate ≡ fate_of old.registers.be old.held.messages (got_of BestEffort graph node (received_in (record_of event w)))
+  pub held_is : mid.held.messages ≡ with_held w.step.fate (got_of BestEffort graph node (received_in (record_of event w))) old.held.messages
+  pub service_is : mid.held.service ≡ old.held.service
+  pub registers_are : mid.registers ≡ old.registers
+  pub clock_is : mid.next ≡ old.next
+  pub logged_is : w.step.logged ≡ logged_of old.held.service (below_barrier barriers.be.0 mid.held.messages)
+  pub put_is : w.step.put ≡ routed graph [] node (owed_of graph node (fields_for graph node w.step.stamped w.next.0 barriers) event w.step.stamped (received_in (record_of event w)))
+      ++ beacons_of graph node [] (fields_for graph node w.step.stamped w.next.0 barriers) event
+  pub unrouted_is : w.step.unrouted ≡ lost graph [] node (owed_of graph node (fields_for graph node w.step.stamped w.next.0 barriers) event w.step.stamped (received_in (record_of event w)))
+
+-- what the record changes at its node is taken over
+pub record Commits (r : Record) (next_ts : ℕ) (old new : Node) : Type 0 where
+  pub registers_are : (ins : List LinkId) (past : List Moment) → registers.Stands ins old.registers past → registers.Stands ins new.registers (with_received true (received_in r) past)
+  pub next_is : new.next.0 ≡ next_ts
+  pub service_is : new.held.service ≡ old.held.service
+  pub messages_are : new.held.messages ≡ from_barrier new.registers.be old.held.messages
+
+-- the packet that was taken
+abbrev pub packet_of : Took → Option Packet
+packet_of Nothing = None
+packet_of (Link l p) = Some p
+packet_of (Message a) = None
+
+-- a message with the fate held was not among these
+abbrev pub IsFresh : Option Fate → Option Packet → Messages → Type 0
+IsFresh (Some Held) (Some p) messages = has_key (key_of p) messages ≡ false
+IsFresh (Some Held) None messages = Unit {0}
+IsFresh (Some Repeat) message messages = Unit {0}
+IsFresh (Some (Late barrier)) message messages = Unit {0}
+IsFresh (Some (Discarded time)) message messages = Unit {0}
+IsFresh (Some Recalled) message messages = Unit {0}
+IsFresh None message messages = Unit {0}
