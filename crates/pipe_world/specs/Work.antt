@@ -1,13 +1,17 @@
 -- What a step does, in the words of what is kept.
-use Rattle.std.specs.Prelude.{◌≡◌, ℕ, ◌++◌, max, true, false, List, [], length, Option, None, Some}
+use Rattle.std.specs.Prelude.{◌≡◌, ℕ, ◌++◌, max, true, false, List, [], ◌∷◌, length, Option, None, Some}
 use Rattle.pipe_base.specs.declared.message.Service.TheVariants.{BestEffort}
 use Rattle.pipe_base.specs.declared.name.LinkId.{LinkId}
 use Rattle.pipe_base.specs.declared.packet.Packet.{Packet}
+use Rattle.pipe_base.specs.declared.name.Ts.{Ts}
 use Rattle.pipe_base.specs.declared.step.Fate.{Fate}
 use Rattle.pipe_base.specs.declared.step.Fate.TheVariants.{Held, Repeat, Late, Discarded, Recalled}
+use Rattle.pipe_base.specs.declared.step.Outcome.TheVariants.{Ok}
+use Rattle.pipe_base.specs.declared.step.Step.{Step}
 use Rattle.pipe_base.specs.Graph.{Graph}
 use Rattle.pipe_base.specs.Messages.{Messages, below_barrier, from_barrier, has_key, logged_of}
-use Rattle.pipe_base.specs.Moment.{Moment}
+use Rattle.pipe_base.specs.Moment.{Moment, Received}
+use Rattle.pipe_base.specs.Step.{quiet_step}
 use Rattle.pipe_barrier.specs.declared.registers.Barriers.{Barriers}
 use Rattle.pipe_barrier.specs.Registers.{AreBarriers}
 use Rattle.pipe_barrier.specs.Registers as registers
@@ -15,8 +19,8 @@ use Rattle.pipe_model.specs.declared.event.Event.{Event}
 use Rattle.pipe_model.specs.declared.record.Record.{Record}
 use Rattle.pipe_model.specs.declared.record.Took.{Took}
 use Rattle.pipe_model.specs.declared.record.Took.TheVariants.{Nothing, Link, Message}
-use Rattle.pipe_model.specs.Clock.{next, next_after, stamped}
-use Rattle.pipe_model.specs.Duties.{Fields, routed, lost, owed_of, beacons_of}
+use Rattle.pipe_model.specs.Clock.{next, next_after, after_logged, stamped}
+use Rattle.pipe_model.specs.Duties.{routed, lost, owed_of, owed_by_take, beacons_of}
 use Rattle.pipe_model.specs.Fate.{fate_of, got_of, key_of, with_held}
 use Rattle.pipe_model.specs.Moments.{received_of, with_received}
 use Rattle.pipe_world.specs.declared.node.Node.{Node}
@@ -74,3 +78,14 @@ IsFresh (Some (Late barrier)) message messages = Unit {0}
 IsFresh (Some (Discarded time)) message messages = Unit {0}
 IsFresh (Some Recalled) message messages = Unit {0}
 IsFresh None message messages = Unit {0}
+
+-- A packet is received: what the step does, where the message that it brought is held already.
+pub record IsReceipt (graph : Graph) (node : ℕ) (mid : Node) (link : LinkId) (p : Packet) (fate : Option Fate) (step : Step) (next_ts : Ts) : Type 0 where
+  pub barriers : Barriers
+  pub barriers_are : (ins : List LinkId) (past : List Moment) → registers.Stands ins mid.registers past → AreBarriers ins (Received link.0 p.be.0 p.commit.0 ∷ past) barriers
+  pub step_is : step ≡ record (quiet_step Ok) { put = step.put; logged = step.logged; unrouted = step.unrouted; fate = fate }
+  pub logged_is : step.logged ≡ logged_of mid.held.service (below_barrier barriers.be.0 mid.held.messages)
+  pub next_is : next_ts.0 ≡ max mid.next.0 (after_logged step.logged)
+  pub put_is : step.put ≡ routed graph [] node (owed_by_take graph node (fields_for graph node None next_ts.0 barriers) (Some (link.0, p)))
+  pub unrouted_is : step.unrouted ≡ lost graph [] node (owed_by_take graph node (fields_for graph node None next_ts.0 barriers) (Some (link.0, p)))
+  pub known : AreKnown (length graph.links) step.put
