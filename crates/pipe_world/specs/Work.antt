@@ -36,33 +36,6 @@ record_of event w = record { event = event; took = w.took; step = w.step }
 abbrev pub received_in : Record → Option (ℕ × Packet)
 received_in r = received_of [] r.event r.took
 
--- A step at a node: what it did, and its record, in the words of what was kept before. The message that it brought is held already.
-pub record IsWork (graph : Graph) (node : ℕ) (old mid : Node) (event : Event) (w : Work) : Type 0 where
-  pub barriers : Barriers
-  pub barriers_are : (ins : List LinkId) (past : List Moment) → registers.Stands ins old.registers past → AreBarriers ins (with_received true (received_in (record_of event w)) past) barriers
-  pub next_is : w.next.0 ≡ max old.next.0 (next_after (record_of event w))
-  pub downed_is : w.step.downed ≡ []
-  pub dropped_is : w.step.dropped ≡ []
-  pub noted_is : w.step.noted ≡ []
-  pub control_is : w.step.control ≡ []
-  pub stamped_is : (own : List Record) → next own ≡ old.next.0 → w.step.stamped ≡ stamped own event
-  pub fate_is : w.step.fate ≡ fate_of old.registers.be old.held.messages (got_of BestEffort graph node (received_in (record_of event w)))
-  pub held_is : mid.held.messages ≡ with_held w.step.fate (got_of BestEffort graph node (received_in (record_of event w))) old.held.messages
-  pub service_is : mid.held.service ≡ old.held.service
-  pub registers_are : mid.registers ≡ old.registers
-  pub clock_is : mid.next ≡ old.next
-  pub logged_is : w.step.logged ≡ logged_of old.held.service (below_barrier barriers.be.0 mid.held.messages)
-  pub put_is : w.step.put ≡ routed graph [] node (owed_of graph node (fields_for graph node w.step.stamped w.next.0 barriers) event w.step.stamped (received_in (record_of event w)))
-      ++ beacons_of graph node [] (fields_for graph node w.step.stamped w.next.0 barriers) event
-  pub unrouted_is : w.step.unrouted ≡ lost graph [] node (owed_of graph node (fields_for graph node w.step.stamped w.next.0 barriers) event w.step.stamped (received_in (record_of event w)))
-
--- what the record changes at its node is taken over
-pub record Commits (r : Record) (next_ts : ℕ) (old new : Node) : Type 0 where
-  pub registers_are : (ins : List LinkId) (past : List Moment) → registers.Stands ins old.registers past → registers.Stands ins new.registers (with_received true (received_in r) past)
-  pub next_is : new.next.0 ≡ next_ts
-  pub service_is : new.held.service ≡ old.held.service
-  pub messages_are : new.held.messages ≡ from_barrier new.registers.be old.held.messages
-
 -- the packet that was taken
 abbrev pub packet_of : Took → Option Packet
 packet_of Nothing = None
@@ -79,6 +52,37 @@ IsFresh (Some (Discarded time)) message messages = Unit {0}
 IsFresh (Some Recalled) message messages = Unit {0}
 IsFresh None message messages = Unit {0}
 
+-- A step at a node: what it did, and its record, in the words of what was kept before. The message that it brought is held already.
+pub record IsWork (graph : Graph) (node : ℕ) (old mid : Node) (event : Event) (w : Work) : Type 0 where
+  pub received : Option (ℕ × Packet)
+  pub received_is : received_in (record_of event w) ≡ received
+  pub barriers : Barriers
+  pub barriers_are : (ins : List LinkId) (past : List Moment) → registers.Stands ins old.registers past → AreBarriers ins (with_received true received past) barriers
+  pub next_is : w.next.0 ≡ max old.next.0 (next_after (record_of event w))
+  pub downed_is : w.step.downed ≡ []
+  pub dropped_is : w.step.dropped ≡ []
+  pub noted_is : w.step.noted ≡ []
+  pub control_is : w.step.control ≡ []
+  pub stamped_is : (own : List Record) → next own ≡ old.next.0 → w.step.stamped ≡ stamped own event
+  pub fate_is : w.step.fate ≡ fate_of old.registers.be old.held.messages (got_of BestEffort graph node received)
+  pub held_is : mid.held.messages ≡ with_held w.step.fate (got_of BestEffort graph node received) old.held.messages
+  pub fresh : IsFresh w.step.fate (packet_of w.took) old.held.messages
+  pub taken_is : mid.held.messages ≡ with_held w.step.fate (packet_of w.took) old.held.messages
+  pub service_is : mid.held.service ≡ old.held.service
+  pub registers_are : mid.registers ≡ old.registers
+  pub clock_is : mid.next ≡ old.next
+  pub logged_is : (messages : Messages) → old.held.messages ≡ from_barrier old.registers.be messages → w.step.logged ≡ logged_of old.held.service (below_barrier barriers.be.0 mid.held.messages)
+  pub put_is : w.step.put ≡ routed graph [] node (owed_of graph node (fields_for graph node w.step.stamped w.next.0 barriers) event w.step.stamped received)
+      ++ beacons_of graph node [] (fields_for graph node w.step.stamped w.next.0 barriers) event
+  pub unrouted_is : w.step.unrouted ≡ lost graph [] node (owed_of graph node (fields_for graph node w.step.stamped w.next.0 barriers) event w.step.stamped received)
+
+-- what the record changes at its node is taken over
+pub record Commits (r : Record) (next_ts : ℕ) (old new : Node) : Type 0 where
+  pub registers_are : (ins : List LinkId) (past : List Moment) → registers.Stands ins old.registers past → registers.Stands ins new.registers (with_received true (received_in r) past)
+  pub next_is : new.next.0 ≡ next_ts
+  pub service_is : new.held.service ≡ old.held.service
+  pub messages_are : new.held.messages ≡ from_barrier new.registers.be old.held.messages
+
 -- A packet is received: what the step does, where the message that it brought is held already.
 pub record IsReceipt (graph : Graph) (node : ℕ) (mid : Node) (link : LinkId) (p : Packet) (fate : Option Fate) (step : Step) (next_ts : Ts) : Type 0 where
   pub barriers : Barriers
@@ -89,3 +93,10 @@ pub record IsReceipt (graph : Graph) (node : ℕ) (mid : Node) (link : LinkId) (
   pub put_is : step.put ≡ routed graph [] node (owed_by_take graph node (fields_for graph node None next_ts.0 barriers) (Some (link.0, p)))
   pub unrouted_is : step.unrouted ≡ lost graph [] node (owed_by_take graph node (fields_for graph node None next_ts.0 barriers) (Some (link.0, p)))
   pub known : AreKnown (length graph.links) step.put
+
+-- what was held for a record is given back
+pub record Undoes (r : Record) (old new : Node) : Type 0 where
+  pub registers_are : new.registers ≡ old.registers
+  pub clock_is : new.next ≡ old.next
+  pub held_is : (messages : Messages) → IsFresh r.step.fate (packet_of r.took) messages → old.held.messages ≡ with_held r.step.fate (packet_of r.took) messages
+      → new.held ≡ record old.held { messages = messages }

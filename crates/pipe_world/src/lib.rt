@@ -7,6 +7,7 @@ mod node;
 mod puts;
 mod queue;
 mod queues;
+mod settle;
 mod work;
 
 pub use network::Network;
