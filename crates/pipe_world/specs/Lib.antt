@@ -3,3 +3,4 @@ pub mod Node
 pub mod Puts
 pub mod Queues
 pub mod Work
+pub mod World

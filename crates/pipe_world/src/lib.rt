@@ -2,6 +2,7 @@
 #![tactic(auto)]
 
 mod enter;
+mod happen;
 mod network;
 mod node;
 mod puts;

@@ -1,6 +1,5 @@
 // The packets that wait on a link.
-ghost use Rattle.std.specs.Prelude.{◌≡◌, ◌-◌, ◌<◌, [], ◌∷◌, ◌++◌, OnOk, OnErr, length, remove, slice_get, take};
-ghost use Rattle.std.specs.Option.{option_copied};
+ghost use Rattle.std.specs.Prelude.{◌≡◌, ◌-◌, ◌<◌, [], ◌∷◌, ◌++◌, OnOk, OnErr, Some, length, remove, slice_get, take};
 
 use pipe_base::{NoMemory, Packet};
 use std::alloc::Global;
@@ -37,11 +36,12 @@ impl Queue {
         self.packets.len()
     }
 
-    /// None where `place` is not below the length.
-    pub fn get(&self, place: u32) -> Option<&Packet>
-        ensures { option_copied result ≡ slice_get self.now place }
+    /// The packet at this place.
+    pub fn at(&self, place: u32) -> &Packet
+        requires { place < length self.now }
+        ensures { slice_get self.now place ≡ Some result.now }
     {
-        self.packets.get(place as usize)
+        &self.packets[place as usize]
     }
 
     pub fn put(&mut self, packet: Packet) -> Result<(), NoMemory>
