@@ -24,6 +24,7 @@ pub record GraphAndTrace : Type 0 where
 
 -- what is kept is what the rules say after the history, and the history is one
 pub record Keeps (graph : Graph) (nodes : List Node) (lists : List (List Packet)) (past : List Record) : Type 0 where
+  pub is_graph : IsGraph graph
   pub count : length nodes ≡ graph.nodes
   pub nodes_are : (n : ℕ) (d : Node) → n < graph.nodes → node.Stands graph n (own graph n past) (slice_index_or nodes n d)
   pub queues_are : queues.Stand graph lists past

@@ -1,6 +1,6 @@
 // One event of the world.
 ghost use Rattle.std.specs.Prelude.{◌≡◌, ◌<◌, ◌∷◌, ◌++◌, List, [], IfOk, OnOk, OnErr, MatchOption, IfSome, length, true};
-ghost use Rattle.pipe_base.specs.Graph.{Graph};
+ghost use Rattle.pipe_base.specs.Graph.{Graph, IsGraph};
 ghost use Rattle.pipe_base.specs.Step.{quiet_step};
 ghost use Rattle.pipe_model.specs.declared.record.Record.{Record};
 ghost use Rattle.pipe_model.specs.Event.{IsOfGraph, IsBuilt};
@@ -59,6 +59,7 @@ fn is_there(queues: &[Queue], event: &Event) -> bool
 
 /// The node that acts in an event, or None where nobody does.
 fn acting_node(network: &Network, event: &Event) -> Option<NodeId>
+    requires graph { IsGraph network.now }
     requires event { IsOfGraph network.now event.now }
     requires built { IsBuilt event.now }
     ensures acts { MatchOption result (is_of_nobody event.now ≡ true) (λ id. ActsAt network.now id event.now) }
