@@ -1,5 +1,5 @@
 -- Events that change no node: nothing waits at their place, or nobody acts in them.
-use Rattle.std.proofs.Common.{◌≡◌, ℕ, ◌≤◌, ◌&&◌, Bool, true, false, if◌then◌else◌, List, [], ◌∷◌, length, Option, None, refl, sym, ap, ◌∙◌}
+use Rattle.std.proofs.Common.{◌≡◌, ℕ, ◌≤◌, ◌&&◌, Bool, true, false, if◌then◌else◌, List, [], ◌∷◌, length, Option, None, refl, sym, ap, ◌∙◌, arith, zero, suc}
 use Rattle.std.specs.Prelude.{nat_lt, not, slice_get, slice_index_or}
 use Rattle.std.proofs.lemmas.Bool.{and_right, both_ways, ltb-false, ltb-true}
 use Rattle.pipe_base.specs.declared.name.LinkId.{LinkId}
@@ -7,7 +7,6 @@ use Rattle.pipe_base.specs.declared.packet.Packet.{Packet}
 use Rattle.pipe_base.specs.declared.step.Outcome.{Outcome}
 use Rattle.pipe_base.specs.declared.step.Outcome.TheVariants.{Ok, NoItem}
 use Rattle.pipe_base.specs.Graph.{Graph}
-use Rattle.pipe_base.specs.Step.{quiet_step}
 use Rattle.pipe_model.specs.declared.event.Event.{Event}
 use Rattle.pipe_model.specs.declared.event.Event.TheVariants.{Send, Tick, Take, Lose, ControlTake, ControlLose, Decide, Crash, Cut}
 use Rattle.pipe_model.specs.declared.record.Record.{Record}
@@ -17,11 +16,7 @@ use Rattle.pipe_model.specs.Event.{IsOfGraph, IsBuilt}
 use Rattle.pipe_model.specs.Outcome.{outcome_of, place_outcome, took_at, took_of}
 use Rattle.pipe_model.specs.Run.{IsStep, is_of_nobody}
 use Rattle.pipe_world.specs.Queues.{IsInPlace, Stand}
-use Rattle.pipe_world.specs.World.{is_there}
-
--- the record of such an event
-abbrev pub quiet_record : Event → Outcome → Record
-quiet_record event outcome = record { event = event; took = Nothing; step = quiet_step outcome }
+use Rattle.pipe_world.specs.World.{is_there, quiet_record}
 
 absent : (b : Bool) → b ≡ false → NoItem ≡ (if b then Ok else NoItem)
 absent true is = cc
@@ -32,7 +27,9 @@ present true is = refl
 present false is = cc
 
 none_past : (link : LinkId) (ps : List Packet) (place : ℕ) → length ps ≤ place → Nothing ≡ took_at link (slice_get ps place)
-none_past link ps place past = ?
+none_past link [] place past = refl
+none_past link (p ∷ ps) zero past = absurd (omega arith)
+none_past link (p ∷ ps) (suc n) past = none_past link ps n (omega arith)
 
 missing_outcome : (graph : Graph) (past : List Record) (lists : List (List Packet)) (event : Event) → Stand graph lists past → IsOfGraph graph event → is_there lists event ≡ false
     → NoItem ≡ outcome_of graph past event

@@ -1,6 +1,7 @@
 -- One event of the world: its record is what the rules say, and what is kept follows it.
 use Rattle.std.proofs.Common.{◌≡◌, ◌≢◌, ℕ, ◌+◌, ◌<◌, ◌≤◌, ◌==◌, ◌&&◌, Bool, true, false, if◌then◌else◌, List, [], ◌∷◌, ◌++◌, length, set, get_or, Option, None, Some, refl, sym, subst, ap, ◌∙◌, arith, inl, inr, eq-eqb, ne_eqb}
-use Rattle.std.specs.Prelude.{nat_lt, not, reverse, slice_get, slice_index_or}
+use Rattle.std.specs.Prelude.{nat_lt, not, reverse, slice_get, slice_index_or, Result, OnOk, OnErr, IfErr, is_err}
+use Rattle.std.specs.Prelude.{Ok as ResultOk, Err as ResultErr}
 use Rattle.std.proofs.lemmas.Bool.{and_from, and_left, and_right, and_parts, or_from, both_ways, cases_eq, ltb-false}
 use Rattle.std.proofs.lemmas.List.{reverse-append, get_or-set_same, get_or-set_other, length-set}
 use Rattle.pipe_base.specs.declared.name.LinkId.{LinkId}
@@ -215,3 +216,20 @@ appended graph nodes lists trace new r is keeps =
 
 pub unchanged : (graph : Graph) (nodes : List Node) (lists : List (List Packet)) (trace new : List Record) → new ≡ trace → Keeps graph nodes lists (reverse trace) → Stands graph nodes lists new
 unchanged graph nodes lists trace new is keeps = subst (λ (past : List Record). Keeps graph nodes lists past) (sym (ap reverse is)) keeps
+
+-- what holds whether a call was refused or not
+pub either_way : {T E : Type 0} (result : Result T E) (A B G : Type 0) → OnOk result A → OnErr result B → (A → G) → (B → G) → G
+either_way (ResultOk x) A B G a b f g = f a
+either_way (ResultErr e) A B G a b f g = g b
+
+pub ok_from : {T E : Type 0} (result : Result T E) (P : Type 0) → false ≡ is_err result → OnOk result P → P
+ok_from (ResultOk x) P is p = p
+ok_from (ResultErr e) P is p = cc
+
+pub err_from : {T E : Type 0} (result : Result T E) (P : Type 0) → true ≡ is_err result → OnErr result P → P
+err_from (ResultOk x) P is p = cc
+err_from (ResultErr e) P is p = p
+
+pub err_gives : {T E : Type 0} (result : Result T E) (Q : E → Type 0) (P : Type 0) → ((e : E) → Q e → P) → IfErr result Q → OnErr result P
+err_gives (ResultOk x) Q P f q = tt
+err_gives (ResultErr e) Q P f q = f e q

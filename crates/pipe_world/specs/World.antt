@@ -2,8 +2,10 @@
 use Rattle.std.specs.Prelude.{◌≡◌, ◌≢◌, ℕ, ◌<◌, nat_lt, Bool, true, false, List, [], ◌∷◌, ◌++◌, length, reverse, slice_get, slice_index_or}
 use Rattle.pipe_base.specs.declared.name.NodeId.{NodeId}
 use Rattle.pipe_base.specs.declared.packet.Packet.{Packet}
+use Rattle.pipe_base.specs.declared.step.Outcome.{Outcome}
 use Rattle.pipe_base.specs.declared.step.Outcome.TheVariants.{Ok}
 use Rattle.pipe_base.specs.Graph.{Graph, IsGraph, head_of}
+use Rattle.pipe_base.specs.Step.{quiet_step}
 use Rattle.pipe_model.specs.declared.event.Event.{Event}
 use Rattle.pipe_model.specs.declared.event.Event.TheVariants.{Send, Tick, Take, Lose, ControlTake, ControlLose, Decide, Crash, Cut}
 use Rattle.pipe_model.specs.declared.record.Record.{Record}
@@ -86,3 +88,17 @@ pub record Adds (graph : Graph) (id : ℕ) (before after : Node) (lists left : L
 pub record Restores (graph : Graph) (id : ℕ) (before after : Node) (lists left : List (List Packet)) : Type 0 where
   pub node_stands : (own : List Record) → node.Stands graph id own before → node.Stands graph id own after
   pub queues_stand : (past : List Record) → queues.Stand graph lists past → queues.Stand graph left past
+
+-- the record of an event that changes no node
+abbrev pub quiet_record : Event → Outcome → Record
+quiet_record event outcome = record { event = event; took = Nothing; step = quiet_step outcome }
+
+-- an event that changes no node: its record was appended, and what waits follows it
+pub record PassesBy (lists left : List (List Packet)) (old new : List Record) (r : Record) : Type 0 where
+  pub appended : new ≡ old ++ r ∷ []
+  pub queues_stand : (graph : Graph) (past : List Record) → queues.Stand graph lists past → queues.Stand graph left (r ∷ past)
+
+-- an event that changes no node: nothing happened
+pub record IsAsBefore (lists left : List (List Packet)) (old new : List Record) : Type 0 where
+  pub same : new ≡ old
+  pub queues_stand : (graph : Graph) (past : List Record) → queues.Stand graph lists past → queues.Stand graph left past

@@ -1,13 +1,12 @@
 // One event of the world.
 ghost use Rattle.std.specs.Prelude.{◌≡◌, ◌<◌, ◌∷◌, ◌++◌, List, [], IfOk, OnOk, OnErr, MatchOption, IfSome, length, true};
 ghost use Rattle.pipe_base.specs.Graph.{Graph, IsGraph};
-ghost use Rattle.pipe_base.specs.Step.{quiet_step};
 ghost use Rattle.pipe_model.specs.declared.record.Record.{Record};
 ghost use Rattle.pipe_model.specs.Event.{IsOfGraph, IsBuilt};
 ghost use Rattle.pipe_model.specs.Run.{is_of_nobody};
-ghost use Rattle.pipe_world.specs.Queues.{AreKnown, IsInPlace, Stand};
+ghost use Rattle.pipe_world.specs.Queues.{AreKnown, IsInPlace};
 ghost use Rattle.pipe_world.specs.Work.{IsWork};
-ghost use Rattle.pipe_world.specs.World.{ActsAt, Adds, AddsEvent, Restores, Stands, Tells, is_there};
+ghost use Rattle.pipe_world.specs.World.{ActsAt, Adds, AddsEvent, IsAsBefore, PassesBy, Restores, Stands, Tells, is_there, quiet_record};
 
 use crate::enter::enter;
 use crate::network::Network;
@@ -82,10 +81,8 @@ fn pass_by(
     outcome: Outcome,
 ) -> Result<(), NoMemory>
     requires { IsInPlace queues.old event outcome }
-    ensures ok { OnOk result (trace.new ≡ trace.old ++ record { event = event; took = Took.Nothing; step = quiet_step outcome } ∷ []) }
-    ensures err { OnErr result (trace.new ≡ trace.old) }
-    ensures queues_ok { OnOk result ((graph : Graph) (past : List Record) → Stand graph queues.old past → Stand graph queues.new (record { event = event; took = Took.Nothing; step = quiet_step outcome } ∷ past)) }
-    ensures queues_err { OnErr result ((graph : Graph) (past : List Record) → Stand graph queues.old past → Stand graph queues.new past) }
+    ensures ok { OnOk result (PassesBy queues.old queues.new trace.old trace.new (quiet_record event outcome)) }
+    ensures err { OnErr result (IsAsBefore queues.old queues.new trace.old trace.new) }
 {
     let mut step = Step::new(alloc);
     step.outcome = outcome;
@@ -94,10 +91,10 @@ fn pass_by(
         took: Took::Nothing,
         step,
     };
-    match enter(queues, trace, record) {
-        Ok(()) => Ok(()),
-        Err(_) => Err(NoMemory),
+    if enter(queues, trace, record).is_err() {
+        return Err(NoMemory);
     }
+    Ok(())
 }
 
 /// An event at the node that acts in it.
