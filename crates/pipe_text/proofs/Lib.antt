@@ -1,0 +1,4 @@
+pub mod DecimalLaws
+pub mod BodyLaws
+pub mod NumberLaws
+pub mod LineLaws

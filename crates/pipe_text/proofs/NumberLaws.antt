@@ -1,0 +1,69 @@
+-- Lemmas on numbers as words.
+use Rattle.std.proofs.Common.{lit<, lit≤, ◌≡◌, ◌==◌, ◌&&◌, ℕ, ◌+◌, ◌-◌, ◌*◌, ◌<◌, ◌≤◌, ◌^◌, Bool, true, false, List, [], ◌∷◌, length, take, get_or, arith, sym, nat_lt, refl, subst, if◌then◌else◌}
+use Rattle.std.proofs.Math.Nat.{pow-le-pow_right}
+use Rattle.std.specs.Char.{is_ascii_digit, digit_value}
+use Rattle.std.specs.List.{list_all}
+use Rattle.std.specs.Str.Parse.{AllDigits, digits_value}
+use Rattle.std.proofs.lemmas.Int.Digits.{digits_value-lt, digits_value_more}
+use Rattle.std.proofs.lemmas.Str.Parse.{digit_at, digits_value-take-le}
+use Rattle.pipe_text.specs.Number.{is_number}
+use Rattle.std.proofs.lemmas.Bool.Decides.{nat_tests}
+
+pub both : (s t : Bool) → (s && t) ≡ true → (s ≡ true) × (t ≡ true)
+both true t is = (refl, is)
+both false t is = absurd cc
+
+-- an ASCII digit has a value below ten, which it is 48 above
+digit_small : (digit : ℕ) → is_ascii_digit digit ≡ true → digit_value digit < 10
+digit_small digit is = grind (arith, nat_tests)
+
+digits_all : (word : List ℕ) → list_all is_ascii_digit word ≡ true → AllDigits 10 word
+digits_all [] is = tt
+digits_all (digit ∷ word) is =
+    let parts = both (is_ascii_digit digit) (list_all is_ascii_digit word) is in
+    (digit_small digit parts.0, digits_all word parts.1)
+
+no_digits : (word : List ℕ) → (length word == 0) ≡ true → AllDigits 10 word
+no_digits [] is = tt
+no_digits (digit ∷ word) is = absurd (grind (arith, nat_tests))
+
+number_parts : (t : Bool) (first : ℕ) (rest : List ℕ) → (first == 48) ≡ t
+    → (if t then length rest == 0 else is_ascii_digit first && (nat_lt (length rest) 15 && list_all is_ascii_digit rest)) ≡ true
+    → AllDigits 10 (first ∷ rest) × (length (first ∷ rest) ≤ 15)
+number_parts true first rest is_zero none =
+    let zero : first ≡ 48 = grind (arith, nat_tests) in
+    let few : length rest ≡ 0 = grind (arith, nat_tests) in
+    ((digit_small first (subst (λ (digit : ℕ). is_ascii_digit digit ≡ true) (sym zero) refl), no_digits rest none), omega arith)
+number_parts false first rest is_zero all =
+    let parts = both (is_ascii_digit first) (nat_lt (length rest) 15 && list_all is_ascii_digit rest) all in
+    let more = both (nat_lt (length rest) 15) (list_all is_ascii_digit rest) parts.1 in
+    let few : length rest < 15 = grind (arith, nat_tests, more.0) in
+    ((digit_small first parts.0, digits_all rest more.1), omega arith)
+
+-- a number has at most 15 digits and nothing else
+pub number_digits : (word : List ℕ) → is_number word ≡ true → AllDigits 10 word × (length word ≤ 15)
+number_digits [] is = absurd cc
+number_digits (first ∷ rest) is = number_parts (first == 48) first rest refl is
+
+-- the value of the digit at a place of a number
+pub number_digit : (word : List ℕ) (i : ℕ) → is_number word ≡ true → i < length word
+    → (digit_value (get_or word i 0) ≡ get_or word i 0 - 48) × (48 ≤ get_or word i 0) × (get_or word i 0 ≤ 57)
+number_digit word i is within =
+    let range = digit_at word i (number_digits word is).0 within in
+    (grind (arith, nat_tests, range.0, range.1), range.0, range.1)
+
+-- each front of a number is small
+pub front_small : (word : List ℕ) (i : ℕ) → is_number word ≡ true → digits_value 10 (take i word) < 1000000000000000
+front_small word i is =
+    let digits = number_digits word is in
+    let below = digits_value-lt 10 word digits.0 in
+    let most : 10 ^ length word ≤ 10 ^ 15 = pow-le-pow_right {n = 10} (lit< tt) {i = length word} {j = 15} digits.1 in
+    omega (arith, digits_value-take-le 10 word i (lit≤ tt), below, most)
+
+-- one digit more
+pub value_more : (word : List ℕ) (i value digit : ℕ) → is_number word ≡ true → i < length word
+    → value ≡ digits_value 10 (take i word) → digit ≡ get_or word i 0 - 48
+    → value * 10 + digit ≡ digits_value 10 (take (i + 1) word)
+value_more word i value digit is within so_far next =
+    let known = number_digit word i is within in
+    omega (arith, known.0, so_far, next, digits_value_more 10 word i within)

@@ -1,0 +1,4 @@
+pub mod Body
+pub mod Log
+pub mod Number
+pub mod Words

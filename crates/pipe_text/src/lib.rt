@@ -1,0 +1,20 @@
+//! What all texts have in common: lines, words, numbers and bodies as they are read, and the lines of a log as they are
+//! printed.
+#![tactic(auto)]
+
+mod body;
+mod kind;
+mod line;
+mod log;
+mod number;
+mod word;
+
+pub use body::{print_hex, read_body};
+pub use kind::LineKind;
+pub use line::next_line;
+pub use log::{print_log_head, print_log_line};
+pub use number::{numbers_are_as_printed, read_number};
+pub use word::{is_skipped, words_of};
+
+#[cfg(test)]
+mod tests;
