@@ -102,3 +102,8 @@ pub record PassesBy (lists left : List (List Packet)) (old new : List Record) (r
 pub record IsAsBefore (lists left : List (List Packet)) (old new : List Record) : Type 0 where
   pub same : new ≡ old
   pub queues_stand : (graph : Graph) (past : List Record) → queues.Stand graph lists past → queues.Stand graph left past
+
+-- the world after an event: the same network, and one record of the event more
+pub record Extends (old new : GraphAndTrace) (event : Event) : Type 0 where
+  pub graph_is : new.graph ≡ old.graph
+  pub adds : AddsEvent old.trace new.trace event

@@ -1,4 +1,5 @@
-//! The world: it runs a schedule of events on a star network and keeps one record of each.
+//! The world: it runs a schedule of events on a star network and appends one record per event, each proved to be what the
+//! rules say of a run.
 #![tactic(auto)]
 
 mod enter;
@@ -10,5 +11,6 @@ mod queue;
 mod queues;
 mod settle;
 mod work;
+mod world;
 
-pub use network::Network;
+pub use world::World;
