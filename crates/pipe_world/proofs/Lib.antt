@@ -1,6 +1,7 @@
 pub mod Lists
 pub mod NodeSteps
 pub mod Passing
+pub mod RunLaws
 pub mod StarGraph
 pub mod Tables
 pub mod WaitingLists
