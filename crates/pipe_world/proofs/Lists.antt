@@ -8,7 +8,7 @@ pub lists_more : {X : Type 0} (d : X) (f : ℕ → X) (xs : List X) (x : X) (n :
     → (k : ℕ) → k < n + 1 → get_or (xs ++ x ∷ []) k d ≡ f k
 lists_more d f xs x n size below here k lt =
     elim (cases_lt k n) [
-      inl less ↦ get_or_append_left xs (x ∷ []) d k (omega arith) ∙ below k less
-    | inr same ↦ let e : length xs ≡ k = omega arith in let n_is : n ≡ k = omega arith in
-        get_or_push xs x d k e ∙ here ∙ subst (λ (m : ℕ). f n ≡ f m) n_is refl
+      | inl less ↦ get_or_append_left xs (x ∷ []) d k (omega arith) ∙ below k less
+      | inr same ↦ let e : length xs ≡ k = omega arith in let n_is : n ≡ k = omega arith in
+          get_or_push xs x d k e ∙ here ∙ subst (λ (m : ℕ). f n ≡ f m) n_is refl
     ]

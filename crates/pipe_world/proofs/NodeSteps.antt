@@ -123,21 +123,21 @@ work_follows graph node own old mid event w stands work =
     let drops_are : known_drops (r ∷ own) ≡ [] = ap (λ (ds : List LinkId). ds ++ w.step.dropped) stands.no_drops ∙ work.dropped_is in
     let clock_is : w.next.0 ≡ next (r ∷ own) = work.next_is ∙ ap (λ (n : ℕ). max n (next_after r)) stands.next_is in
     let fields_are : fields graph node own r ≡ fields_for graph node w.step.stamped w.next.0 b =
-      fields_same (is_host graph node) w.step.stamped (next (r ∷ own)) w.next.0 (barrier_at plane.BestEffort graph node (r ∷ own)) (barrier_at plane.Commit graph node (r ∷ own)) b
-      (sym clock_is) be_is commit_is in
+    fields_same (is_host graph node) w.step.stamped (next (r ∷ own)) w.next.0 (barrier_at plane.BestEffort graph node (r ∷ own)) (barrier_at plane.Commit graph node (r ∷ own)) b
+    (sym clock_is) be_is commit_is in
     let fate_told : w.step.fate ≡ fate_of before ever (got_of BestEffort graph node q) =
-      work.fate_is
-      ∙ ap (λ (n : ℕ). fate_of n old.held.messages (got_of BestEffort graph node q)) before_is
-      ∙ ap (λ (ms : Messages). fate_of before ms (got_of BestEffort graph node q)) kept_is
-      ∙ fate_from before ever (got_of BestEffort graph node q) in
+    work.fate_is
+    ∙ ap (λ (n : ℕ). fate_of n old.held.messages (got_of BestEffort graph node q)) before_is
+    ∙ ap (λ (ms : Messages). fate_of before ms (got_of BestEffort graph node q)) kept_is
+    ∙ fate_from before ever (got_of BestEffort graph node q) in
     let held_now : mid.held.messages ≡ from_barrier before (with_held (fate_of before ever (got_of BestEffort graph node q)) (got_of BestEffort graph node q) ever) =
-      work.held_is
-      ∙ ap (λ (f : Option Fate). with_held f (got_of BestEffort graph node q) old.held.messages) fate_told
-      ∙ ap (λ (ms : Messages). with_held (fate_of before ever (got_of BestEffort graph node q)) (got_of BestEffort graph node q) ms) kept_is
-      ∙ held_from before ever (got_of BestEffort graph node q) in
+    work.held_is
+    ∙ ap (λ (f : Option Fate). with_held f (got_of BestEffort graph node q) old.held.messages) fate_told
+    ∙ ap (λ (ms : Messages). with_held (fate_of before ever (got_of BestEffort graph node q)) (got_of BestEffort graph node q) ms) kept_is
+    ∙ held_from before ever (got_of BestEffort graph node q) in
     let held_all : mid.held.messages ≡ from_barrier before (held BestEffort graph node (r ∷ own)) =
-      held_now
-      ∙ ap (λ (o : Option (ℕ × Packet)). from_barrier before (with_held (fate_of before ever (got_of BestEffort graph node o)) (got_of BestEffort graph node o) ever)) (sym got_is) in
+    held_now
+    ∙ ap (λ (o : Option (ℕ × Packet)). from_barrier before (with_held (fate_of before ever (got_of BestEffort graph node o)) (got_of BestEffort graph node o) ever)) (sym got_is) in
     record {
       rules = record {
         downed_is = work.downed_is;
@@ -146,14 +146,14 @@ work_follows graph node own old mid event w stands work =
         stamped_is = work.stamped_is own (sym stands.next_is);
         fate_is = fate_told ∙ ap (λ (o : Option (ℕ × Packet)). fate_of before ever (got_of BestEffort graph node o)) (sym got_is);
         logged_is =
-          work.logged_is ever (kept_is ∙ ap (λ (n : ℕ). from_barrier n ever) (sym before_is))
-          ∙ ap (λ (s : Service). logged_of s (below_barrier b.be.0 mid.held.messages)) stands.service_is
-          ∙ ap (λ (n : ℕ). logged_of BestEffort (below_barrier n mid.held.messages)) (sym be_is)
-          ∙ ap (λ (ms : Messages). logged_of BestEffort (below_barrier (barrier_at plane.BestEffort graph node (r ∷ own)) ms)) held_all;
+            work.logged_is ever (kept_is ∙ ap (λ (n : ℕ). from_barrier n ever) (sym before_is))
+            ∙ ap (λ (s : Service). logged_of s (below_barrier b.be.0 mid.held.messages)) stands.service_is
+            ∙ ap (λ (n : ℕ). logged_of BestEffort (below_barrier n mid.held.messages)) (sym be_is)
+            ∙ ap (λ (ms : Messages). logged_of BestEffort (below_barrier (barrier_at plane.BestEffort graph node (r ∷ own)) ms)) held_all;
         put_is = work.put_is
-          ∙ sym (puts_same graph node (fields graph node own r) (fields_for graph node w.step.stamped w.next.0 b) event w.step.stamped (received own r) q (known_drops (r ∷ own)) fields_are got_is drops_are);
+            ∙ sym (puts_same graph node (fields graph node own r) (fields_for graph node w.step.stamped w.next.0 b) event w.step.stamped (received own r) q (known_drops (r ∷ own)) fields_are got_is drops_are);
         unrouted_is = work.unrouted_is
-          ∙ sym (losses_same graph node (fields graph node own r) (fields_for graph node w.step.stamped w.next.0 b) event w.step.stamped (received own r) q (known_drops (r ∷ own)) fields_are got_is drops_are);
+            ∙ sym (losses_same graph node (fields graph node own r) (fields_for graph node w.step.stamped w.next.0 b) event w.step.stamped (received own r) q (known_drops (r ∷ own)) fields_are got_is drops_are);
         control_is = work.control_is;
       };
       stands = record {
@@ -173,18 +173,18 @@ pub settled : (graph : Graph) (node : ℕ) (own : List Record) (mid new : Node) 
 settled graph node own mid new r next_ts stands down drop clock commits =
     let q : Option (ℕ × Packet) = received_in r in
     let moments_are : moments_of (r ∷ own) ≡ with_received true q (moments_of own) =
-      moments_received own r q (up_received (moments_of own) stands.all_up r.event r.took) down drop in
+    moments_received own r q (up_received (moments_of own) stands.all_up r.event r.took) down drop in
     let registers_now : registers.Stands (ins_of graph node) new.registers (moments_of (r ∷ own)) =
-      subst (λ (past : List Moment). registers.Stands (ins_of graph node) new.registers past) (sym moments_are)
-      (commits.registers_are (ins_of graph node) (moments_of own) stands.registers_are) in
+    subst (λ (past : List Moment). registers.Stands (ins_of graph node) new.registers past) (sym moments_are)
+    (commits.registers_are (ins_of graph node) (moments_of own) stands.registers_are) in
     record {
       registers_are = registers_now;
       next_is = commits.next_is ∙ clock;
       service_is = commits.service_is ∙ stands.service_is;
       messages_are = commits.messages_are
-        ∙ ap (λ (n : ℕ). from_barrier n mid.held.messages) registers_now.be_is
-        ∙ ap (λ (ms : Messages). from_barrier (barrier_at plane.BestEffort graph node (r ∷ own)) ms) stands.messages_are
-        ∙ from_later (barrier_at plane.BestEffort graph node own) (barrier_at plane.BestEffort graph node (r ∷ own)) (held BestEffort graph node (r ∷ own))
+          ∙ ap (λ (n : ℕ). from_barrier n mid.held.messages) registers_now.be_is
+          ∙ ap (λ (ms : Messages). from_barrier (barrier_at plane.BestEffort graph node (r ∷ own)) ms) stands.messages_are
+          ∙ from_later (barrier_at plane.BestEffort graph node own) (barrier_at plane.BestEffort graph node (r ∷ own)) (held BestEffort graph node (r ∷ own))
           (barrier_rises plane.BestEffort graph node own r);
       all_up = λ link. subst (λ (past : List Moment). is_up past link ≡ true) (sym moments_are) (received_up (moments_of own) q stands.all_up link);
       no_drops = ap (λ (ds : List LinkId). ds ++ r.step.dropped) stands.no_drops ∙ drop;

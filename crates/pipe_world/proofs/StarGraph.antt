@@ -10,7 +10,7 @@ length-cables : (hosts n : ℕ) → length (cable_links hosts n) ≡ 2 * n
 length-cables hosts zero = refl
 length-cables hosts (suc n) =
     let more : length (cable_links hosts n ++ joined n hosts ∷ joined (hosts + 1) n ∷ []) ≡ length (cable_links hosts n) + 2 =
-      length-append (cable_links hosts n) (joined n hosts ∷ joined (hosts + 1) n ∷ []) in
+    length-append (cable_links hosts n) (joined n hosts ∷ joined (hosts + 1) n ∷ []) in
     omega (arith, more, length-cables hosts n)
 
 pub length-star : (hosts patience : ℕ) → length (star hosts patience).links ≡ 2 * hosts + 1

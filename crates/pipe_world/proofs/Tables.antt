@@ -38,7 +38,7 @@ pub table_more : (n : ℕ) (links : List Link) (end : End) (lists : List (List L
     → more ≡ ends_at links end n → IsTableOf (n + 1) links end (lists ++ more ∷ [])
 table_more n links end lists more table is =
     let lists_are : (k : ℕ) → k < n + 1 → slice_index_or (lists ++ more ∷ []) k [] ≡ ends_at links end k =
-      lists_more [] (ends_at links end) lists more n table.count table.lists_are is in
+    lists_more [] (ends_at links end) lists more n table.count table.lists_are is in
     record {
       count = length_push lists more ∙ ap (λ (m : ℕ). m + 1) table.count;
       lists_are = lists_are;

@@ -43,11 +43,11 @@ pub have_more : (old mid new : List (List Packet)) (ps : List (LinkId × Packet)
 have_more old mid new ps p before more = record {
   count = more.count ∙ before.count;
   lists_are = λ link lt.
-    let within : link < length mid = omega (arith, before.count) in
-    more.lists_are link within
-    ∙ ap (λ (xs : List Packet). xs ++ put_on link (p ∷ [])) (before.lists_are link lt)
-    ∙ append_assoc (slice_index_or old link []) (put_on link ps) (put_on link (p ∷ []))
-    ∙ ap (λ (xs : List Packet). slice_index_or old link [] ++ xs) (sym (put_on-append link ps (p ∷ [])));
+      let within : link < length mid = omega (arith, before.count) in
+      more.lists_are link within
+      ∙ ap (λ (xs : List Packet). xs ++ put_on link (p ∷ [])) (before.lists_are link lt)
+      ∙ append_assoc (slice_index_or old link []) (put_on link ps) (put_on link (p ∷ []))
+      ∙ ap (λ (xs : List Packet). slice_index_or old link [] ++ xs) (sym (put_on-append link ps (p ∷ [])));
 }
 
 without_last : (xs ys : List Packet) (y : Packet) → ys ≡ xs ++ y ∷ [] → take (length ys - 1) ys ≡ xs
@@ -75,19 +75,19 @@ pub back_one : (before queues : List (List Packet)) (ps : List (LinkId × Packet
 back_one before queues ps p left lt put left_is = record {
   count = length-set queues p.0.0 left ∙ put.count;
   lists_are = λ link within.
-    elim (cases_eq link p.0.0) [
-      inl same ↦
-        let in_queues : link < length queues = omega (arith, put.count) in
-        subst (λ (l : ℕ). slice_index_or (set queues l left) link [] ≡ slice_index_or before link [] ++ put_on link ps) same
-        (get_or-set_same queues link left [] in_queues ∙ left_is
-          ∙ subst (λ (l : ℕ). take (length (slice_index_or queues l []) - 1) (slice_index_or queues l []) ≡ slice_index_or before link [] ++ put_on link ps) same
+      elim (cases_eq link p.0.0) [
+        | inl same ↦
+            let in_queues : link < length queues = omega (arith, put.count) in
+            subst (λ (l : ℕ). slice_index_or (set queues l left) link [] ≡ slice_index_or before link [] ++ put_on link ps) same
+            (get_or-set_same queues link left [] in_queues ∙ left_is
+            ∙ subst (λ (l : ℕ). take (length (slice_index_or queues l []) - 1) (slice_index_or queues l []) ≡ slice_index_or before link [] ++ put_on link ps) same
             (without_last (slice_index_or before link [] ++ put_on link ps) (slice_index_or queues link []) p.1
-              (last_put before queues ps p link (sym same) in_queues put)))
-    | inr other ↦
-        get_or-set_other queues p.0.0 link left [] other
-        ∙ put.lists_are link within
-        ∙ ap (λ (xs : List Packet). slice_index_or before link [] ++ xs) (put_on_other link ps p (λ e. other (sym e)))
-    ];
+            (last_put before queues ps p link (sym same) in_queues put)))
+        | inr other ↦
+            get_or-set_other queues p.0.0 link left [] other
+            ∙ put.lists_are link within
+            ∙ ap (λ (xs : List Packet). slice_index_or before link [] ++ xs) (put_on_other link ps p (λ e. other (sym e)))
+      ];
 }
 
 -- what a test takes out stands before what is put
@@ -106,11 +106,11 @@ left_past link (Tick node now) outcome queues more place = refl
 left_past link (Take l at keep) outcome queues more waits =
     take_left ((l.0 == link) && (not keep && not (is_idle outcome))) (slice_index_or queues link []) more at
     (λ is. let both = and_parts (l.0 == link) (not keep && not (is_idle outcome)) is in
-      there queues l.0 link at (is_idle outcome) (eqb-true l.0 link both.0) (not-true (is_idle outcome) (and_parts (not keep) (not (is_idle outcome)) both.1).1) waits)
+    there queues l.0 link at (is_idle outcome) (eqb-true l.0 link both.0) (not-true (is_idle outcome) (and_parts (not keep) (not (is_idle outcome)) both.1).1) waits)
 left_past link (Lose l at) outcome queues more waits =
     take_left ((l.0 == link) && not (is_idle outcome)) (slice_index_or queues link []) more at
     (λ is. let both = and_parts (l.0 == link) (not (is_idle outcome)) is in
-      there queues l.0 link at (is_idle outcome) (eqb-true l.0 link both.0) (not-true (is_idle outcome) both.1) waits)
+    there queues l.0 link at (is_idle outcome) (eqb-true l.0 link both.0) (not-true (is_idle outcome) both.1) waits)
 left_past link (ControlTake place keep) outcome queues more waits = refl
 left_past link (ControlLose place) outcome queues more waits = refl
 left_past link Decide outcome queues more waits = refl
@@ -118,9 +118,10 @@ left_past link (Crash node) outcome queues more waits = refl
 left_past link (Cut l) outcome queues more waits = refl
 
 waits_more : (old new : List (List Packet)) (puts : List (LinkId × Packet)) (link place : ℕ) → HavePut old puts new → Waits old link place → Waits new link place
-waits_more old new puts link place put waits =
-    (omega (arith, put.count, waits.0),
-     omega (arith, waits.1, ap length (put.lists_are link waits.0), length-append (slice_index_or old link []) (put_on link puts)))
+waits_more old new puts link place put waits = (
+  omega (arith, put.count, waits.0),
+  omega (arith, waits.1, ap length (put.lists_are link waits.0), length-append (slice_index_or old link []) (put_on link puts)),
+)
 
 pub in_place_more : (old new : List (List Packet)) (puts : List (LinkId × Packet)) (event : Event) (outcome : Outcome) → HavePut old puts new → IsInPlace old event outcome → IsInPlace new event outcome
 in_place_more old new puts (Send host service now dests) outcome put waits = tt
@@ -139,12 +140,12 @@ pub entered : (graph : Graph) (past : List Record) (r : Record) (old mid new : L
 entered graph past r old mid new put place left stands = record {
   count = left.count ∙ put.count ∙ stands.count;
   lists_are = λ link lt.
-    let in_old : link < length old = omega (arith, stands.count) in
-    let in_mid : link < length mid = omega (arith, put.count, in_old) in
-    left.lists_are link in_mid
-    ∙ ap (λ (xs : List Packet). left_after link r.event r.step.outcome xs) (put.lists_are link in_old)
-    ∙ left_past link r.event r.step.outcome old (put_on link r.step.put) place
-    ∙ ap (λ (xs : List Packet). left_after link r.event r.step.outcome xs ++ put_on link r.step.put) (stands.lists_are link lt);
+      let in_old : link < length old = omega (arith, stands.count) in
+      let in_mid : link < length mid = omega (arith, put.count, in_old) in
+      left.lists_are link in_mid
+      ∙ ap (λ (xs : List Packet). left_after link r.event r.step.outcome xs) (put.lists_are link in_old)
+      ∙ left_past link r.event r.step.outcome old (put_on link r.step.put) place
+      ∙ ap (λ (xs : List Packet). left_after link r.event r.step.outcome xs ++ put_on link r.step.put) (stands.lists_are link lt);
 }
 
 -- what nothing was put on stands as before
@@ -152,6 +153,6 @@ pub restored : (graph : Graph) (past : List Record) (old new : List (List Packet
 restored graph past old new put stands = record {
   count = put.count ∙ stands.count;
   lists_are = λ link lt.
-    let in_old : link < length old = omega (arith, stands.count) in
-    put.lists_are link in_old ∙ append-nil (slice_index_or old link []) ∙ stands.lists_are link lt;
+      let in_old : link < length old = omega (arith, stands.count) in
+      put.lists_are link in_old ∙ append-nil (slice_index_or old link []) ∙ stands.lists_are link lt;
 }

@@ -24,7 +24,7 @@ pub lost_more : (graph : Graph) (node before now : ℕ) (p : Packet) (ps : List 
     → now ≡ before + lost graph [] node (p ∷ []) → now + lost graph [] node ps ≡ before + lost graph [] node (p ∷ ps)
 lost_more graph node before now p ps is =
     let first : lost graph [] node (p ∷ ps) ≡ cond (is_none (route graph [] node p.src.0 p.dst.0)) 1 0 + lost graph [] node ps =
-      sum_by-cons (λ (q : Packet). cond (is_none (route graph [] node q.src.0 q.dst.0)) 1 0) p ps in
+    sum_by-cons (λ (q : Packet). cond (is_none (route graph [] node q.src.0 q.dst.0)) 1 0) p ps in
     let one : lost graph [] node (p ∷ []) ≡ cond (is_none (route graph [] node p.src.0 p.dst.0)) 1 0 + lost graph [] node [] =
-      sum_by-cons (λ (q : Packet). cond (is_none (route graph [] node q.src.0 q.dst.0)) 1 0) p [] in
+    sum_by-cons (λ (q : Packet). cond (is_none (route graph [] node q.src.0 q.dst.0)) 1 0) p [] in
     omega (arith, first, one, is)

@@ -52,7 +52,7 @@ logged_below b s ms = logged_all b s (below_barrier b ms) (below-all b ms)
 none_logged : (s : Service) (b c : ℕ) (held ms : Messages) → c ≡ b → held ≡ from_barrier b ms → [] ≡ logged_of s (below_barrier c held)
 none_logged s b c held ms same is =
     sym (ap (λ (n : ℕ). logged_of s (below_barrier n held)) same ∙ ap (λ (xs : Messages). logged_of s (below_barrier b xs)) is
-      ∙ ap (logged_of s) (none_between b ms))
+    ∙ ap (logged_of s) (none_between b ms))
 
 -- the two barriers of a node as they stand
 pub record AreThose (node : Node) (b : Barriers) : Type 0 where
@@ -88,7 +88,7 @@ tick_is_work graph node id now next_ts b f put step step_is next_is those fields
       clock_is = refl;
       logged_is = λ ms is. none_logged node.held.service node.registers.be b.be.0 node.held.messages ms those.be_is is;
       put_is = put_is ∙ ap (λ (g : Fields). map (λ (l : LinkId). (l, beacon g)) (outs_of graph id.0)) fields
-        ∙ ap (λ (ls : List LinkId). map (λ (l : LinkId). (l, beacon (fields_for graph id.0 None next_ts.0 b))) ls) (sym (no_drop (outs_of graph id.0)));
+          ∙ ap (λ (ls : List LinkId). map (λ (l : LinkId). (l, beacon (fields_for graph id.0 None next_ts.0 b))) ls) (sym (no_drop (outs_of graph id.0)));
       unrouted_is = refl;
     })
 
@@ -129,7 +129,7 @@ send_is_work graph node host service now stamp next_ts dests b f puts step step_
       clock_is = refl;
       logged_is = λ ms is. none_logged node.held.service node.registers.be b.be.0 node.held.messages ms those.be_is is;
       put_is = puts_are.put_is ∙ ap (λ (g : Fields). routed graph [] host.0 (map (message_to host stamp g) dests)) fields
-        ∙ sym (append-nil (routed graph [] host.0 (map (message_to host stamp (fields_for graph host.0 (Some stamp) next_ts.0 b)) dests)));
+          ∙ sym (append-nil (routed graph [] host.0 (map (message_to host stamp (fields_for graph host.0 (Some stamp) next_ts.0 b)) dests)));
       unrouted_is = puts_are.unrouted_is ∙ ap (λ (g : Fields). lost graph [] host.0 (map (message_to host stamp g) dests)) fields;
     })
 
@@ -178,7 +178,7 @@ fresh_got false b ms p = tt
 
 -- a message with the fate held was not held before
 pub fresh : (graph : Graph) (node link b : ℕ) (ms : Messages) (p : Packet) (fate : Option Fate) → fate ≡ fate_of b ms (got_of BestEffort graph node (Some (link, p))) → IsFresh fate (Some p) ms
-fresh graph node link b ms p fate is = subst (λ (f : Option Fate). IsFresh f (Some p) ms) (sym is) 
+fresh graph node link b ms p fate is = subst (λ (f : Option Fate). IsFresh f (Some p) ms) (sym is)
     (fresh_got (is_host graph node && ((p.dst.0 == node) && carries BestEffort p.kind)) b ms p)
 
 taken_here : (link : ℕ) (q : ℕ × Packet) → (if (link == link) && true then Some q else None) ≡ Some q
@@ -199,8 +199,8 @@ take_is_work graph old mid node link p place keep fate step next_ts fate_is mid_
     let held_now : mid.held.messages ≡ with_held fate (Some p) old.held.messages = ap (λ (k : Node). k.held.messages) mid_is in
     let t : Bool = is_host graph node && ((p.dst.0 == node) && carries BestEffort p.kind) in
     let got_same : with_held fate (Some p) old.held.messages ≡ with_held fate (got_of BestEffort graph node (Some q)) old.held.messages =
-      subst (λ (f : Option Fate). with_held f (Some p) old.held.messages ≡ with_held f (got_of BestEffort graph node (Some q)) old.held.messages) (sym fate_is)
-      (with_got t old.registers.be old.held.messages old.held.messages p) in
+    subst (λ (f : Option Fate). with_held f (Some p) old.held.messages ≡ with_held f (got_of BestEffort graph node (Some q)) old.held.messages) (sym fate_is)
+    (with_got t old.registers.be old.held.messages old.held.messages p) in
     record {
       received = Some q;
       received_is = taken_here link.0 q;
@@ -221,8 +221,8 @@ take_is_work graph old mid node link p place keep fate step next_ts fate_is mid_
       clock_is = clock_same;
       logged_is = λ ms is. receipt.logged_is ∙ ap (λ (s : Service). logged_of s (below_barrier receipt.barriers.be.0 mid.held.messages)) service_same;
       put_is = receipt.put_is
-        ∙ ap (λ (o : Option Ts). routed graph [] node (owed_by_take graph node (fields_for graph node o next_ts.0 receipt.barriers) (Some q))) (sym unstamped)
-        ∙ sym (append-nil (routed graph [] node (owed_by_take graph node (fields_for graph node step.stamped next_ts.0 receipt.barriers) (Some q))));
+          ∙ ap (λ (o : Option Ts). routed graph [] node (owed_by_take graph node (fields_for graph node o next_ts.0 receipt.barriers) (Some q))) (sym unstamped)
+          ∙ sym (append-nil (routed graph [] node (owed_by_take graph node (fields_for graph node step.stamped next_ts.0 receipt.barriers) (Some q))));
       unrouted_is = receipt.unrouted_is
-        ∙ ap (λ (o : Option Ts). lost graph [] node (owed_by_take graph node (fields_for graph node o next_ts.0 receipt.barriers) (Some q))) (sym unstamped);
+          ∙ ap (λ (o : Option Ts). lost graph [] node (owed_by_take graph node (fields_for graph node o next_ts.0 receipt.barriers) (Some q))) (sym unstamped);
     }

@@ -125,22 +125,22 @@ added graph id before mid after lists left event w names built at there work tel
     let others : (n : ℕ) → n ≢ id.0 → is_own graph n r ≡ false = λ n other. and_left (acts graph n event w.took) (not (is_idle w.step.outcome)) (acts_only graph id event w.took n at other) in
     record {
       rules = λ past stands waits.
-        let follows = work_follows graph id.0 (own graph id.0 past) before mid event w stands work in
-        record {
-          built = built;
-          outcome_is = outcome_told graph id past before lists event w stands waits names at there tells;
-          took_is = took_told graph id past before.next.0 lists event w waits names at tells;
-          quiet = λ is. absurd (both_ways (is_quiet r) (or_from (is_idle w.step.outcome) (is_of_nobody event) awake (somebody graph id event at)) is);
-          node = λ n is.
-            elim (cases_eq n id.0) [
-              inl same ↦ subst (λ (m : ℕ). IsNodeStep graph m (own graph m past) r) (sym same) follows.rules
-            | inr other ↦ absurd (both_ways (is_own graph n r) (others n other) is)
-            ];
-        };
+          let follows = work_follows graph id.0 (own graph id.0 past) before mid event w stands work in
+          record {
+            built = built;
+            outcome_is = outcome_told graph id past before lists event w stands waits names at there tells;
+            took_is = took_told graph id past before.next.0 lists event w waits names at tells;
+            quiet = λ is. absurd (both_ways (is_quiet r) (or_from (is_idle w.step.outcome) (is_of_nobody event) awake (somebody graph id event at)) is);
+            node = λ n is.
+                elim (cases_eq n id.0) [
+                  | inl same ↦ subst (λ (m : ℕ). IsNodeStep graph m (own graph m past) r) (sym same) follows.rules
+                  | inr other ↦ absurd (both_ways (is_own graph n r) (others n other) is)
+                ];
+          };
       node_stands = λ past stands.
-        let follows = work_follows graph id.0 (own graph id.0 past) before mid event w stands work in
-        subst (λ (o : List Record). node.Stands graph id.0 o after) (sym (own_more graph id.0 r past mine))
-        (settled graph id.0 (own graph id.0 past) mid after r w.next.0 follows.stands work.downed_is work.dropped_is follows.next_is commits);
+          let follows = work_follows graph id.0 (own graph id.0 past) before mid event w stands work in
+          subst (λ (o : List Record). node.Stands graph id.0 o after) (sym (own_more graph id.0 r past mine))
+          (settled graph id.0 (own graph id.0 past) mid after r w.next.0 follows.stands work.downed_is work.dropped_is follows.next_is commits);
       others = others;
       queues_stand = moved;
     }
@@ -165,14 +165,14 @@ acted graph nodes lists left past id before after r keeps lt read adds =
       is_graph = keeps.is_graph;
       count = length-set nodes id after ∙ keeps.count;
       nodes_are = λ n d within.
-        elim (cases_eq n id) [
-          inl same ↦
-            subst (λ (m : ℕ). node.Stands graph m (own graph m (r ∷ past)) (slice_index_or (set nodes id after) m d)) (sym same)
-            (subst (λ (k : Node). node.Stands graph id (own graph id (r ∷ past)) k) (sym (get_or-set_same nodes id after d (omega (arith, keeps.count)))) (adds.node_stands past stands))
-        | inr other ↦
-            subst (λ (o : List Record). node.Stands graph n o (slice_index_or (set nodes id after) n d)) (sym (own_same graph n r past (adds.others n other)))
-            (subst (λ (k : Node). node.Stands graph n (own graph n past) k) (sym (get_or-set_other nodes id n after d other)) (keeps.nodes_are n d within))
-        ];
+          elim (cases_eq n id) [
+            | inl same ↦
+                subst (λ (m : ℕ). node.Stands graph m (own graph m (r ∷ past)) (slice_index_or (set nodes id after) m d)) (sym same)
+                (subst (λ (k : Node). node.Stands graph id (own graph id (r ∷ past)) k) (sym (get_or-set_same nodes id after d (omega (arith, keeps.count)))) (adds.node_stands past stands))
+            | inr other ↦
+                subst (λ (o : List Record). node.Stands graph n o (slice_index_or (set nodes id after) n d)) (sym (own_same graph n r past (adds.others n other)))
+                (subst (λ (k : Node). node.Stands graph n (own graph n past) k) (sym (get_or-set_other nodes id n after d other)) (keeps.nodes_are n d within))
+          ];
       queues_are = adds.queues_stand past keeps.queues_are;
       rules = (keeps.rules, adds.rules past stands keeps.queues_are);
     }
@@ -186,12 +186,12 @@ refused graph nodes lists left past id before after keeps lt read restores =
       is_graph = keeps.is_graph;
       count = length-set nodes id after ∙ keeps.count;
       nodes_are = λ n d within.
-        elim (cases_eq n id) [
-          inl same ↦
-            subst (λ (m : ℕ). node.Stands graph m (own graph m past) (slice_index_or (set nodes id after) m d)) (sym same)
-            (subst (λ (k : Node). node.Stands graph id (own graph id past) k) (sym (get_or-set_same nodes id after d (omega (arith, keeps.count)))) (restores.node_stands (own graph id past) stands))
-        | inr other ↦ subst (λ (k : Node). node.Stands graph n (own graph n past) k) (sym (get_or-set_other nodes id n after d other)) (keeps.nodes_are n d within)
-        ];
+          elim (cases_eq n id) [
+            | inl same ↦
+                subst (λ (m : ℕ). node.Stands graph m (own graph m past) (slice_index_or (set nodes id after) m d)) (sym same)
+                (subst (λ (k : Node). node.Stands graph id (own graph id past) k) (sym (get_or-set_same nodes id after d (omega (arith, keeps.count)))) (restores.node_stands (own graph id past) stands))
+            | inr other ↦ subst (λ (k : Node). node.Stands graph n (own graph n past) k) (sym (get_or-set_other nodes id n after d other)) (keeps.nodes_are n d within)
+          ];
       queues_are = restores.queues_stand past keeps.queues_are;
       rules = keeps.rules;
     }

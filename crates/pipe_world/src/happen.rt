@@ -38,7 +38,15 @@ pub fn happen(
         return pass_by(alloc, queues, trace, event, Outcome::NoItem);
     }
     match acting_node(network, &event) {
-        Some(id) => act(alloc, network, id, &mut nodes[id.0 as usize], queues, trace, event),
+        Some(id) => act(
+            alloc,
+            network,
+            id,
+            &mut nodes[id.0 as usize],
+            queues,
+            trace,
+            event,
+        ),
         None => pass_by(alloc, queues, trace, event, Outcome::Ok),
     }
 }
@@ -156,9 +164,12 @@ fn work_at(
     ensures err { OnErr result (node.new ≡ node.old) }
 {
     match event {
-        Event::Send { host, now, dests, .. } => {
-            send_work(alloc, network, *host, node, *now, dests)
-        }
+        Event::Send {
+            host,
+            now,
+            dests,
+            ..
+        } => { send_work(alloc, network, *host, node, *now, dests) }
         Event::Tick { node: at, now } => tick_work(alloc, network, *at, node, *now),
         Event::Take { link, place, .. } => {
             let packet = queues[link.0 as usize].at(*place).try_clone()?;

@@ -14,3 +14,6 @@ mod work;
 mod world;
 
 pub use world::World;
+
+#[cfg(test)]
+mod tests;

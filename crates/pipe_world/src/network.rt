@@ -179,10 +179,19 @@ fn star_links(alloc: Global, hosts: u16) -> Result<Vec<Link>, NoMemory>
     let mut links = Vec::new(alloc);
     'hosts: for host in 0..hosts {
         let host = NodeId(host);
-        links.push(Link { tail: host, head: up })?;
-        links.push(Link { tail: down, head: host })?;
+        links.push(Link {
+            tail: host,
+            head: up,
+        })?;
+        links.push(Link {
+            tail: down,
+            head: host,
+        })?;
     }
-    links.push(Link { tail: up, head: down })?;
+    links.push(Link {
+        tail: up,
+        head: down,
+    })?;
     Ok(links)
 }
 

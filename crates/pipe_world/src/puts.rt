@@ -21,7 +21,13 @@ pub struct Puts {
 }
 
 /// The two barriers that a node's packets carry after a step: a host's promises, or the barriers of a half.
-pub fn packet_fields(network: &Network, id: NodeId, stamped: Option<Ts>, next: Ts, barriers: Barriers) -> Barriers
+pub fn packet_fields(
+    network: &Network,
+    id: NodeId,
+    stamped: Option<Ts>,
+    next: Ts,
+    barriers: Barriers,
+) -> Barriers
     ensures { fields_of result ≡ fields_for network.now id.0 stamped next.0 barriers }
 {
     if !network.is_host(id) {
@@ -35,7 +41,12 @@ pub fn packet_fields(network: &Network, id: NodeId, stamped: Option<Ts>, next: T
 }
 
 /// Puts a packet on its way, or counts it where it has none.
-fn put_on_way(network: &Network, id: NodeId, packet: Packet, puts: &mut Puts) -> Result<(), NoMemory>
+fn put_on_way(
+    network: &Network,
+    id: NodeId,
+    packet: Packet,
+    puts: &mut Puts,
+) -> Result<(), NoMemory>
     requires node { id.0 < network.now.nodes }
     requires room { puts.old.unrouted < 4294967295 }
     requires known { AreKnown (length network.now.links) puts.old.put }
@@ -51,7 +62,14 @@ fn put_on_way(network: &Network, id: NodeId, packet: Packet, puts: &mut Puts) ->
 }
 
 /// A best-effort message to each receiver of a scattering.
-pub fn messages(alloc: Global, network: &Network, src: HostId, ts: Ts, fields: Barriers, dests: &DestList) -> Result<Puts, NoMemory>
+pub fn messages(
+    alloc: Global,
+    network: &Network,
+    src: HostId,
+    ts: Ts,
+    fields: Barriers,
+    dests: &DestList,
+) -> Result<Puts, NoMemory>
     requires node { src.0 < network.now.nodes }
     requires few { length dests.now ≤ 16 }
     ensures { IfOk result (ArePutsOf network.now src.0 (map (message_to src ts (fields_of fields)) dests.now)) }
@@ -83,7 +101,13 @@ fn message(src: HostId, ts: Ts, fields: Barriers, dest: &Dest) -> Result<Packet,
 }
 
 /// What a node passes on of a packet that it received: a half passes on all but beacons.
-pub fn forwarded(alloc: Global, network: &Network, id: NodeId, fields: Barriers, packet: &Packet) -> Result<Puts, NoMemory>
+pub fn forwarded(
+    alloc: Global,
+    network: &Network,
+    id: NodeId,
+    fields: Barriers,
+    packet: &Packet,
+) -> Result<Puts, NoMemory>
     requires node { id.0 < network.now.nodes }
     ensures { IfOk result (λ puts. (link : ℕ) → ArePutsOf network.now id.0 (owed_by_take network.now id.0 (fields_of fields) (Some (link, packet.now))) puts) }
 {
@@ -107,7 +131,12 @@ fn is_beacon(kind: PacketKind) -> bool
 }
 
 /// A beacon on each link out of the node.
-pub fn beacons(alloc: Global, network: &Network, id: NodeId, fields: Barriers) -> Result<PutList, NoMemory>
+pub fn beacons(
+    alloc: Global,
+    network: &Network,
+    id: NodeId,
+    fields: Barriers,
+) -> Result<PutList, NoMemory>
     requires node { id.0 < network.now.nodes }
     ensures beacons { IfOk result (λ put. put ≡ map (λ l. (l, beacon (fields_of fields))) (outs_of network.now id.0)) }
     ensures known { IfOk result (AreKnown (length network.now.links)) }

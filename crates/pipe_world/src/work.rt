@@ -14,7 +14,8 @@ use crate::node::Node;
 use crate::puts::{beacons, forwarded, messages, packet_fields};
 use pipe_barrier::Barriers;
 use pipe_base::{
-    DestList, Fate, HostId, Key, LAST_STAMP, LinkId, LoggedList, NoMemory, NodeId, Outcome, Packet, PacketKind, Step, Ts,
+    DestList, Fate, HostId, Key, LAST_STAMP, LinkId, LoggedList, NoMemory, NodeId, Outcome, Packet,
+    PacketKind, Step, Ts,
 };
 use pipe_model::Took;
 use pipe_reorder::Reorder;
@@ -29,7 +30,14 @@ pub struct Work {
 }
 
 /// A host sends a best-effort message to each receiver, all under one stamp.
-pub fn send_work(alloc: Global, network: &Network, host: HostId, node: &Node, now: Ts, dests: &DestList) -> Result<Work, NoMemory>
+pub fn send_work(
+    alloc: Global,
+    network: &Network,
+    host: HostId,
+    node: &Node,
+    now: Ts,
+    dests: &DestList,
+) -> Result<Work, NoMemory>
     requires node { host.0 < network.now.nodes }
     requires few { length dests.now ≤ 16 }
     ensures work { IfOk result (λ work. (service : Service) → IsWork network.now host.0 node.now node.now (Send host service now dests.now) work) }
@@ -60,7 +68,13 @@ pub fn send_work(alloc: Global, network: &Network, host: HostId, node: &Node, no
 }
 
 /// A node's clock reads `now`.
-pub fn tick_work(alloc: Global, network: &Network, id: NodeId, node: &Node, now: Ts) -> Result<Work, NoMemory>
+pub fn tick_work(
+    alloc: Global,
+    network: &Network,
+    id: NodeId,
+    node: &Node,
+    now: Ts,
+) -> Result<Work, NoMemory>
     requires node { id.0 < network.now.nodes }
     ensures work { IfOk result (λ work. IsWork network.now id.0 node.now node.now (Tick id now) work) }
     ensures known { IfOk result (λ work. AreKnown (length network.now.links) work.step.put) }
@@ -78,7 +92,14 @@ pub fn tick_work(alloc: Global, network: &Network, id: NodeId, node: &Node, now:
 }
 
 /// A packet is received on a link into the node.
-pub fn take_work(alloc: Global, network: &Network, id: NodeId, node: &mut Node, link: LinkId, packet: Packet) -> Result<Work, NoMemory>
+pub fn take_work(
+    alloc: Global,
+    network: &Network,
+    id: NodeId,
+    node: &mut Node,
+    link: LinkId,
+    packet: Packet,
+) -> Result<Work, NoMemory>
     requires node { id.0 < network.now.nodes }
     ensures work { IfOk result (λ work. (place : ℕ) (keep : Bool) → IsWork network.now id.0 node.old node.new (Take link place keep) work) }
     ensures known { IfOk result (λ work. AreKnown (length network.now.links) work.step.put) }
@@ -100,7 +121,15 @@ pub fn take_work(alloc: Global, network: &Network, id: NodeId, node: &mut Node, 
     }
 }
 
-fn receive(alloc: Global, network: &Network, id: NodeId, node: &Node, link: LinkId, packet: &Packet, fate: Option<Fate>) -> Result<(Step, Ts), NoMemory>
+fn receive(
+    alloc: Global,
+    network: &Network,
+    id: NodeId,
+    node: &Node,
+    link: LinkId,
+    packet: &Packet,
+    fate: Option<Fate>,
+) -> Result<(Step, Ts), NoMemory>
     requires node { id.0 < network.now.nodes }
     ensures { IfOk result (λ r. IsReceipt network.now id.0 node.now link packet.now fate r.0 r.1) }
 {

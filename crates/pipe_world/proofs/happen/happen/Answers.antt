@@ -21,11 +21,11 @@ returns-then-not-is_there-clause-stands c =
     (Stands graph c.args.nodes.now c.pass_by.new.queues c.pass_by.new.trace)
     c.pass_by.ensures.ok c.pass_by.ensures.err
     (λ done. appended graph c.args.nodes.now c.pass_by.new.queues c.args.trace.now c.pass_by.new.trace r done.appended
-      (passed_by graph c.args.nodes.now c.args.queues.now c.pass_by.new.queues past r c.requires.stands (idle_owned graph c.args.event)
-        (missing_step graph past c.args.queues.now c.args.event c.requires.stands.queues_are c.requires.event c.requires.built absent)
-        (done.queues_stand graph past c.requires.stands.queues_are)))
+    (passed_by graph c.args.nodes.now c.args.queues.now c.pass_by.new.queues past r c.requires.stands (idle_owned graph c.args.event)
+    (missing_step graph past c.args.queues.now c.args.event c.requires.stands.queues_are c.requires.event c.requires.built absent)
+    (done.queues_stand graph past c.requires.stands.queues_are)))
     (λ refusal. unchanged graph c.args.nodes.now c.pass_by.new.queues c.args.trace.now c.pass_by.new.trace refusal.same
-      (moved_queues graph c.args.nodes.now c.args.queues.now c.pass_by.new.queues past c.requires.stands (refusal.queues_stand graph past c.requires.stands.queues_are)))
+    (moved_queues graph c.args.nodes.now c.args.queues.now c.pass_by.new.queues past c.requires.stands (refusal.queues_stand graph past c.requires.stands.queues_are)))
 
 pub returns-in-Some-clause-stands : goal.returns-in-Some-clause-stands
 returns-in-Some-clause-stands c =
@@ -35,16 +35,16 @@ returns-in-Some-clause-stands c =
     let before : Node = slice_index_or c.args.nodes.now id c.index-nodes-id.result in
     let known : id < graph.nodes = c.in-Some.ensures.known in
     let read : before ≡ slice_index_or c.args.nodes.now id before =
-      get_or_default c.args.nodes.now id c.index-nodes-id.result before (omega (arith, c.requires.stands.count, known)) in
+    get_or_default c.args.nodes.now id c.index-nodes-id.result before (omega (arith, c.requires.stands.count, known)) in
     either_way c.act.result
     ((r : Record) × (c.act.new.trace ≡ c.args.trace.now ++ r ∷ []) × (r.event ≡ c.args.event) × Adds graph id before c.act.new.node c.args.queues.now c.act.new.queues r)
     ((c.act.new.trace ≡ c.args.trace.now) × Restores graph id before c.act.new.node c.args.queues.now c.act.new.queues)
     (Stands graph (set c.args.nodes.now id c.act.new.node) c.act.new.queues c.act.new.trace)
     c.act.ensures.ok c.act.ensures.err
     (λ done. appended graph (set c.args.nodes.now id c.act.new.node) c.act.new.queues c.args.trace.now c.act.new.trace done.0 done.1
-      (acted graph c.args.nodes.now c.args.queues.now c.act.new.queues past id before c.act.new.node done.0 c.requires.stands known read done.3))
+    (acted graph c.args.nodes.now c.args.queues.now c.act.new.queues past id before c.act.new.node done.0 c.requires.stands known read done.3))
     (λ refusal. unchanged graph (set c.args.nodes.now id c.act.new.node) c.act.new.queues c.args.trace.now c.act.new.trace refusal.0
-      (refused graph c.args.nodes.now c.args.queues.now c.act.new.queues past id before c.act.new.node c.requires.stands known read refusal.1))
+    (refused graph c.args.nodes.now c.args.queues.now c.act.new.queues past id before c.act.new.node c.requires.stands known read refusal.1))
 
 pub returns-in-None-clause-stands : goal.returns-in-None-clause-stands
 returns-in-None-clause-stands c =
@@ -58,8 +58,8 @@ returns-in-None-clause-stands c =
     (Stands graph c.args.nodes.now c.pass_by-in-None.new.queues c.pass_by-in-None.new.trace)
     c.pass_by-in-None.ensures.ok c.pass_by-in-None.ensures.err
     (λ done. appended graph c.args.nodes.now c.pass_by-in-None.new.queues c.args.trace.now c.pass_by-in-None.new.trace r done.appended
-      (passed_by graph c.args.nodes.now c.args.queues.now c.pass_by-in-None.new.queues past r c.requires.stands (nobody_owned graph c.args.event c.requires.built c.in-None.ensures.acts)
-        (loss_step graph past c.args.queues.now c.args.event c.requires.stands.queues_are c.requires.event c.requires.built c.in-None.ensures.acts there)
-        (done.queues_stand graph past c.requires.stands.queues_are)))
+    (passed_by graph c.args.nodes.now c.args.queues.now c.pass_by-in-None.new.queues past r c.requires.stands (nobody_owned graph c.args.event c.requires.built c.in-None.ensures.acts)
+    (loss_step graph past c.args.queues.now c.args.event c.requires.stands.queues_are c.requires.event c.requires.built c.in-None.ensures.acts there)
+    (done.queues_stand graph past c.requires.stands.queues_are)))
     (λ refusal. unchanged graph c.args.nodes.now c.pass_by-in-None.new.queues c.args.trace.now c.pass_by-in-None.new.trace refusal.same
-      (moved_queues graph c.args.nodes.now c.args.queues.now c.pass_by-in-None.new.queues past c.requires.stands (refusal.queues_stand graph past c.requires.stands.queues_are)))
+    (moved_queues graph c.args.nodes.now c.args.queues.now c.pass_by-in-None.new.queues past c.requires.stands (refusal.queues_stand graph past c.requires.stands.queues_are)))

@@ -23,12 +23,12 @@ dests-preserved c =
     let dests : List (HostId × List ℕ) = c.as_slice-dest-items.result.now in
     let rest : List Packet = map f (drop (c.dests.dest-index + 1) dests) in
     let left : c.in_ok-packet.packet ∷ rest ≡ map f (drop c.dests.dest-index dests) =
-      first_left f dests c.dests.dest-index c.dest-item.result c.in_ok-packet.packet c.dests-test.true c.dest-item.is c.in_ok-packet.ensures in
+    first_left f dests c.dests.dest-index c.dest-item.result c.in_ok-packet.packet c.dests-test.true c.dest-item.is c.in_ok-packet.ensures in
     record {
       put = routed_more graph c.args.src.0 c.dests.puts.put c.put_on_way.new.puts.put c.in_ok-packet.packet rest c.in_ok-put_on_way.ensures.put
-        ∙ ap (λ (ps : List Packet). c.dests.puts.put ++ routed graph [] c.args.src.0 ps) left ∙ c.dests.invariant.put;
+          ∙ ap (λ (ps : List Packet). c.dests.puts.put ++ routed graph [] c.args.src.0 ps) left ∙ c.dests.invariant.put;
       unrouted = lost_more graph c.args.src.0 c.dests.puts.unrouted c.put_on_way.new.puts.unrouted c.in_ok-packet.packet rest c.in_ok-put_on_way.ensures.unrouted
-        ∙ ap (λ (ps : List Packet). c.dests.puts.unrouted + lost graph [] c.args.src.0 ps) left ∙ c.dests.invariant.unrouted;
+          ∙ ap (λ (ps : List Packet). c.dests.puts.unrouted + lost graph [] c.args.src.0 ps) left ∙ c.dests.invariant.unrouted;
       known = c.in_ok-put_on_way.ensures.known;
     }
 
@@ -38,7 +38,13 @@ put_on_way-requires c =
     let dests : List (HostId × List ℕ) = c.as_slice-dest-items.result.now in
     record {
       node = c.requires.node;
-      room = omega (arith, c.dests.invariant.unrouted, count_by-le-length (λ (p : Packet). is_none (route c.args.network.now [] c.args.src.0 p.src.0 p.dst.0)) (map f dests),
-        length-map dests f, ap length c.as_slice-dest-items.ensures, c.requires.few);
+      room = omega (
+        arith,
+        c.dests.invariant.unrouted,
+        count_by-le-length (λ (p : Packet). is_none (route c.args.network.now [] c.args.src.0 p.src.0 p.dst.0)) (map f dests),
+        length-map dests f,
+        ap length c.as_slice-dest-items.ensures,
+        c.requires.few,
+      );
       known = c.dests.invariant.known;
     }

@@ -20,23 +20,23 @@ drop_newest-requires c =
     let put = c.index-puts-left.result in
     let at : c.puts.left - 1 < length c.args.puts.now = omega (arith, c.puts-test.true, c.puts.invariant.within) in
     let known : put.0.0 < length c.puts.queues =
-      omega (arith, c.requires.known (c.puts.left - 1) put at, ap (λ (p : LinkId × Packet). p.0.0) c.index-puts-left.is, c.puts.auto.queues) in
+    omega (arith, c.requires.known (c.puts.left - 1) put at, ap (λ (p : LinkId × Packet). p.0.0) c.index-puts-left.is, c.puts.auto.queues) in
     let read = last_read c.args.puts.now c.puts.left put c.puts-test.true c.puts.invariant.within c.index-puts-left.is in
     subst (λ (xs : List Packet). 0 < length xs) (get_or_default c.puts.queues put.0.0 [] c.index-queues-link.result known)
     (back_filled c.requires.put.0 c.puts.queues (take (c.puts.left - 1) c.args.puts.now) put known
-      (subst (λ (ps : List (LinkId × Packet)). HavePut c.requires.put.0 ps c.puts.queues) read (c.puts.invariant.back c.requires.put.0 c.requires.put.1)))
+    (subst (λ (ps : List (LinkId × Packet)). HavePut c.requires.put.0 ps c.puts.queues) read (c.puts.invariant.back c.requires.put.0 c.requires.put.1)))
 
 pub puts-preserved : goal.puts-preserved
 puts-preserved c =
     let put = c.index-puts-left.result in
     let at : c.puts.left - 1 < length c.args.puts.now = omega (arith, c.puts-test.true, c.puts.invariant.within) in
     let known : put.0.0 < length c.puts.queues =
-      omega (arith, c.requires.known (c.puts.left - 1) put at, ap (λ (p : LinkId × Packet). p.0.0) c.index-puts-left.is, c.puts.auto.queues) in
+    omega (arith, c.requires.known (c.puts.left - 1) put at, ap (λ (p : LinkId × Packet). p.0.0) c.index-puts-left.is, c.puts.auto.queues) in
     let read = last_read c.args.puts.now c.puts.left put c.puts-test.true c.puts.invariant.within c.index-puts-left.is in
     record {
       within = omega (arith, c.puts.invariant.within);
       back = λ before have.
-        back_one before c.puts.queues (take (c.puts.left - 1) c.args.puts.now) put c.drop_newest.new.self known
-        (subst (λ (ps : List (LinkId × Packet)). HavePut before ps c.puts.queues) read (c.puts.invariant.back before have))
-        (c.drop_newest.ensures ∙ ap (λ (xs : List Packet). take (length xs - 1) xs) (get_or_default c.puts.queues put.0.0 c.index-queues-link.result [] known));
+          back_one before c.puts.queues (take (c.puts.left - 1) c.args.puts.now) put c.drop_newest.new.self known
+          (subst (λ (ps : List (LinkId × Packet)). HavePut before ps c.puts.queues) read (c.puts.invariant.back before have))
+          (c.drop_newest.ensures ∙ ap (λ (xs : List Packet). take (length xs - 1) xs) (get_or_default c.puts.queues put.0.0 c.index-queues-link.result [] known));
     }

@@ -12,7 +12,7 @@ pub returns-in-Err-clause-err : goal.returns-in-Err-clause-err
 returns-in-Err-clause-err c =
     let old : Buffer = c.args.node.now.held in
     let back : c.let_go.new.held ≡ record c.hold.new.held { messages = old.messages } =
-      c.let_go.ensures old.messages
-      (fresh c.args.network.now c.args.id.0 c.args.link.0 c.args.node.now.registers.be old.messages c.args.packet c.fate_at-fate.result (c.fate_at-fate.ensures c.args.link.0))
-      (ap (λ (h : Buffer). h.messages) c.in_ok-hold.ensures.ok) in
+    c.let_go.ensures old.messages
+    (fresh c.args.network.now c.args.id.0 c.args.link.0 c.args.node.now.registers.be old.messages c.args.packet c.fate_at-fate.result (c.fate_at-fate.ensures c.args.link.0))
+    (ap (λ (h : Buffer). h.messages) c.in_ok-hold.ensures.ok) in
     ap (λ (h : Buffer). record c.args.node.now { held = h }) (back ∙ ap (λ (h : Buffer). record h { messages = old.messages }) c.in_ok-hold.ensures.ok)

@@ -17,7 +17,7 @@ invariant_of-result c =
     let graph : Graph = record { hosts = c.args.hosts; nodes = c.args.hosts + 2; links = c.in_ok-links.links.items; patience = c.args.patience.0 } in
     network_of graph c.in_ok-ins.ins.items c.in_ok-outs.outs.items
     (subst (λ (ls : List Link). IsGraph (record { hosts = c.args.hosts; nodes = c.args.hosts + 2; links = ls; patience = c.args.patience.0 })) (sym c.in_ok-links.ensures)
-      (star_is_graph c.args.hosts c.args.patience.0))
+    (star_is_graph c.args.hosts c.args.patience.0))
     (omega arith) (omega (arith, length-star c.args.hosts 0, ap length c.in_ok-links.ensures))
     (rw c.deref.ensures.value at c.in_ok-ins.ensures)
     (rw c.deref-2.ensures.value at c.in_ok-outs.ensures)
