@@ -6,6 +6,7 @@ mod apart;
 mod build;
 mod distances;
 mod fault;
+mod hosts;
 mod links;
 mod names;
 mod plan;
@@ -17,6 +18,7 @@ mod walk;
 
 pub use distances::{Distances, FAR};
 pub use fault::{TopoFault, What};
+pub use hosts::HostSet;
 pub use links::LinkSet;
 pub use names::Names;
 pub use plan::{Cable, CableEnd, CableList, LevelList, Plan};
