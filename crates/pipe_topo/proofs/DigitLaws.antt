@@ -32,15 +32,15 @@ one_other count n m k b lt here elsewhere =
     let set_size = length-set (digits count n) k b in
     same_lists (digits count m) (set (digits count n) k b) (omega arith)
     (λ i d i_lt.
-      let inside : i < count = omega arith in
-      elim (eqb_tells i k) [
-        inl same ↦
+    let inside : i < count = omega arith in
+    elim (eqb_tells i k) [
+      | inl same ↦
           get_or-digits count m i d inside ∙ subst (λ (j : ℕ). (bit_at m j == 1) ≡ b) (sym same.1) here
           ∙ sym (subst (λ (j : ℕ). get_or (set (digits count n) k b) j d ≡ b) (sym same.1) (get_or-set_same (digits count n) k b d (omega arith)))
       | inr other ↦
           get_or-digits count m i d inside ∙ ap (λ (t : ℕ). t == 1) (elsewhere i inside other.1) ∙ sym (get_or-digits count n i d inside)
           ∙ sym (get_or-set_other (digits count n) k i b d other.1)
-      ])
+    ])
 
 pub digits_set : (n k : ℕ) → k < 64 → digits 64 (bit_or n (1 * 2 ^ k % 2 ^ 64)) ≡ set (digits 64 n) k true
 digits_set n k lt =
@@ -61,15 +61,15 @@ low_digits count k le =
     let both = length-append (replicate k true) (replicate (count - k) false) in
     same_lists (digits count (2 ^ k - 1)) (replicate k true ++ replicate (count - k) false) (omega arith)
     (λ i d i_lt.
-      let inside : i < count = omega arith in
-      elim (leb_tells k i) [
-        inl above ↦
+    let inside : i < count = omega arith in
+    elim (leb_tells k i) [
+      | inl above ↦
           get_or-digits count (2 ^ k - 1) i d inside ∙ ap (λ (b : ℕ). b == 1) (bit_at_ones_above k i above.1)
           ∙ sym (get_or-append_right (replicate k true) (replicate (count - k) false) k i d ones above.1 ∙ get_or-replicate (count - k) (i - k) false d (omega (arith, above.1)))
       | inr below ↦
           get_or-digits count (2 ^ k - 1) i d inside ∙ ap (λ (b : ℕ). b == 1) (bit_at_ones k i below.1)
           ∙ sym (get_or_append_left (replicate k true) (replicate (count - k) false) d i (omega (arith, below.1)) ∙ get_or-replicate k i true d below.1)
-      ])
+    ])
 
 -- a digit times its power is not 0 exactly where the digit is 1
 pub bit_is : (n k : ℕ) → not (bit_at n k * 2 ^ k == 0) ≡ (bit_at n k == 1)
@@ -78,7 +78,7 @@ bit_is n k = pick (bit_at n k) (bit_at-lt n k)
     pick : (b : ℕ) → b < 2 → not (b * 2 ^ k == 0) ≡ (b == 1)
     pick zero lt = let e : 0 * 2 ^ k ≡ 0 = omega arith in ap (λ (m : ℕ). not (m == 0)) e
     pick (suc zero) lt = elim (eqb_tells (1 * 2 ^ k) 0) [
-        inl none ↦ let some = pow_pos k in absurd (omega (arith, none.1))
+      | inl none ↦ let some = pow_pos k in absurd (omega (arith, none.1))
       | inr some ↦ ap not some.0
-      ]
+    ]
     pick (suc (suc b)) lt = absurd (omega arith)

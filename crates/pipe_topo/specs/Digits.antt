@@ -27,6 +27,6 @@ number_of-digits (suc count) n lt =
     lowest : (t : Bool) → (n % 2 == 1) ≡ t → (if n % 2 == 1 then 1 else 0) + 2 * (n / 2) ≡ n
     lowest true odd = rw odd (let one = eqb-true (n % 2) 1 odd in omega arith)
     lowest false even = rw even (elim (eqb_tells (n % 2) 1) [
-        inl one ↦ absurd (true≢false (sym one.0 ∙ even))
+      | inl one ↦ absurd (true≢false (sym one.0 ∙ even))
       | inr other ↦ let apart = other.1 in omega arith
-      ])
+    ])
