@@ -1,0 +1,5 @@
+pub mod EventLaws
+pub mod ReceiverLaws
+pub mod ScheduleLaws
+pub mod OutsideLaws
+pub mod StarLaws
