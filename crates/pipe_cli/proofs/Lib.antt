@@ -1,3 +1,4 @@
+pub mod FormLaws
 pub mod EventLaws
 pub mod ReceiverLaws
 pub mod ScheduleLaws

@@ -1,5 +1,6 @@
 -- Lemmas on what is read and written by several calls.
-use Rattle.std.proofs.Common.{◌≡◌, ℕ, ◌+◌, List, [], ◌∷◌, ◌++◌, take, drop, length, Option, None, Some, refl, ap, sym, ◌∙◌, append_assoc, append-nil}
+use Rattle.std.proofs.Common.{◌≡◌, ℕ, ◌+◌, ◌-◌, arith, rules, List, [], ◌∷◌, ◌++◌, take, drop, length, Option, None, Some, refl, ap, sym, ◌∙◌, append_assoc, append-nil}
+use Rattle.std.proofs.lemmas.List.{places, same_lists, take_rest}
 use Rattle.std.specs.Io.KnownBytes.{Consumes, Appends, Keeps}
 
 pub consumes_none : (left : Option (List ℕ)) → Consumes left left []
@@ -32,3 +33,11 @@ appends_kept None now new bytes first kept = tt
 appends_kept (Some xs) None new bytes first kept = absurd first
 appends_kept (Some xs) (Some ys) None bytes first kept = absurd kept
 appends_kept (Some xs) (Some ys) (Some zs) bytes first kept = kept ∙ first
+
+-- a part at the front, and then more of the rest
+pub take-more : (at n : ℕ) (xs : List ℕ) → take (at + n) xs ≡ take at xs ++ take n (take (length xs - at) (drop at xs))
+take-more at n xs =
+    let rest : take (length xs - at) (drop at xs) ≡ drop at xs = take_rest xs at in
+    let joined : take (at + n) xs ≡ take at xs ++ take n (drop at xs)
+        = same_lists _ _ (search (rules, places)) (λ k d h. grind (arith, places)) in
+    joined ∙ ap (λ ys. take at xs ++ take n ys) (sym rest)

@@ -50,13 +50,6 @@ place_below hosts at (name ∷ names) word names_are found =
     let count = length-names hosts (name ∷ names) names_are in
     omega arith
 
--- the text at a place is the name
-pub name_is : (place : Named) (names : List (String Global)) (i : ℕ) (text : List ℕ) (found : String Global)
-    → i < length names → map string_bytes names ≡ place.names → text ≡ string_bytes found → found ≡ get_or names i found
-    → text ≡ get_or place.names i []
-name_is place names i text found within names_are text_is found_is =
-    text_is ∙ ap string_bytes found_is ∙ sym (get_or-map string_bytes names i found [] within) ∙ ap (λ xs. get_or xs i []) names_are
-
 sizes_none : (words : List (List ℕ)) → 3 ≤ length words → sizes_of words ≡ None
 sizes_none [] many = absurd (omega arith)
 sizes_none (a ∷ []) many = absurd (omega arith)

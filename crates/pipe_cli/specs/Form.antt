@@ -2,5 +2,5 @@
 use Rattle.std.specs.Prelude.{◌≡◌, ℕ, List, [], ◌∷◌, codes}
 
 -- `replay` alone
-abbrev pub IsReplay : List (List ℕ) → Type 0
-IsReplay words = words ≡ codes "replay" ∷ []
+abbrev pub IsReplayForm : List (List ℕ) → Type 0
+IsReplayForm words = words ≡ codes "replay" ∷ []

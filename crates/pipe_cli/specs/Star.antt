@@ -25,6 +25,8 @@ named_star hosts patience = record { graph = star hosts patience; names = node_n
 pub record IsStar (hosts patience : ℕ) (links : List Link) (names : List (List ℕ)) : Type 0 where
   pub some : 1 ≤ hosts
   pub few : hosts ≤ 64
+  pub patient : 1 ≤ patience
+  pub within : patience ≤ 281474976710654
   pub links_are : links ≡ (star hosts patience).links
   pub names_are : names ≡ node_names hosts
 

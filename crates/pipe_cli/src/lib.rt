@@ -2,8 +2,11 @@
 //! every host's log.
 #![tactic(auto)]
 
+mod acting;
 mod event;
 mod exact;
+mod host_log;
+mod log_text;
 mod read;
 mod receivers;
 mod schedule;

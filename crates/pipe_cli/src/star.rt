@@ -37,7 +37,8 @@ impl Model for Star {
 
 impl Star {
     pub fn new(alloc: Global, hosts: u16, patience: Ts) -> Result<Star, NoMemory>
-        requires { (1 ≤ hosts) × (hosts ≤ 64) }
+        requires hosts { (1 ≤ hosts) × (hosts ≤ 64) }
+        requires patience { (1 ≤ patience.0) × (patience.0 ≤ 281474976710654) }
         ensures { IfOk result (λ star. star ≡ named_star hosts patience.0) }
     {
         let links = star_links(alloc, hosts)?;
@@ -59,7 +60,8 @@ impl Star {
     }
 
     pub fn patience(&self) -> Ts
-        ensures { result.0 ≡ self.now.graph.patience }
+        ensures patience { result.0 ≡ self.now.graph.patience }
+        ensures within { (1 ≤ result.0) × (result.0 ≤ 281474976710654) }
     {
         self.patience
     }
@@ -107,12 +109,14 @@ impl Star {
         }
     }
 
-    /// The name of a host.
+    /// The name of a host. An unknown one has no letters.
     pub fn name(&self, host: HostId) -> &str
-        requires { host.0 < self.now.graph.hosts }
         ensures { result.now ≡ slice_index_or self.now.names host.0 [] }
     {
-        self.names[usize::from(host.0)].as_str()
+        match self.names.get(usize::from(host.0)) {
+            Some(name) => name.as_str(),
+            None => "",
+        }
     }
 }
 

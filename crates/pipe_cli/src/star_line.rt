@@ -21,7 +21,8 @@ pub fn read_star(alloc: Global, words: &[&[u8]]) -> Result<Option<Star>, NoMemor
 
 fn star_size(words: &[&[u8]]) -> Option<(u16, u64)>
     ensures size { result ≡ star_size (map (λ word. word.now) words.now) }
-    ensures few { IfSome result (λ p. (1 ≤ p.0) × (p.0 ≤ 64)) }
+    ensures hosts { IfSome result (λ p. (1 ≤ p.0) × (p.0 ≤ 64)) }
+    ensures patience { IfSome result (λ p. (1 ≤ p.1) × (p.1 ≤ 281474976710654)) }
 {
     let Some((verb, words)) = words.split_first() else {
         return None;
@@ -40,9 +41,11 @@ fn star_size(words: &[&[u8]]) -> Option<(u16, u64)>
 }
 
 fn size_from(hosts: Option<u64>, patience: Option<u64>) -> Option<(u16, u64)>
-    requires { IfSome hosts (λ n. n ≤ 64) }
+    requires hosts { IfSome hosts (λ n. n ≤ 64) }
+    requires patience { IfSome patience (λ n. n ≤ 281474976710654) }
     ensures size { result ≡ size_from hosts patience }
-    ensures few { IfSome result (λ p. (1 ≤ p.0) × (p.0 ≤ 64)) }
+    ensures hosts { IfSome result (λ p. (1 ≤ p.0) × (p.0 ≤ 64)) }
+    ensures patience { IfSome result (λ p. (1 ≤ p.1) × (p.1 ≤ 281474976710654)) }
 {
     match (hosts, patience) {
         (Some(hosts), Some(patience)) if hosts > 0 && patience > 0 => Some((hosts as u16, patience)),

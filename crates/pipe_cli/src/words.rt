@@ -1,6 +1,6 @@
 // The words of the command line.
 ghost use Rattle.std.specs.Prelude.{◌≡◌, ◌↔◌, IsTrue, map, string_bytes};
-ghost use Rattle.pipe_cli.specs.Form.{IsReplay};
+ghost use Rattle.pipe_cli.specs.Form.{IsReplayForm};
 
 use pipe_base::List;
 
@@ -9,7 +9,7 @@ pub type Words = List<String>;
 
 /// Whether the words are the form `replay`. Takes no memory.
 pub fn is_replay(words: &Words) -> bool
-    ensures { IsTrue result ↔ IsReplay (map string_bytes words.now) }
+    ensures { IsTrue result ↔ IsReplayForm (map string_bytes words.now) }
 {
     match words.as_slice() {
         [word] => word.as_str() == "replay",
