@@ -7,10 +7,18 @@ use Rattle.pipe_base.specs.declared.message.Service.TheVariants.{BestEffort, Rel
 use Rattle.pipe_model.specs.declared.record.Record.{Record}
 use Rattle.pipe_model.specs.Acting.{own}
 use Rattle.pipe_model.specs.Logged.{log, entries_of}
+use Rattle.pipe_text.specs.Log.{log_head}
 use Rattle.pipe_cli.specs.LogText.{log_lines}
 use Rattle.pipe_cli.specs.Named.{Named}
 use Rattle.pipe_cli.specs.Printed.{Printed}
 use Rattle.pipe_cli.specs.declared.host_log.HostLog.{HostLog}
+
+-- a log with its head
+abbrev pub one_log : List ℕ → Service → Printed → List ℕ
+one_log host service log = log_head host service log.count ++ log.lines
+
+abbrev pub both_logs : List ℕ → HostLog → List ℕ
+both_logs host log = one_log host BestEffort log.best ++ one_log host Reliable log.reliable
 
 -- a log with more entries
 abbrev pub with_entries : List (List ℕ) → List Entry → Printed → Printed

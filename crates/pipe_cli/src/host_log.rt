@@ -1,6 +1,5 @@
 // The logs of one host as they are printed.
 ghost use Rattle.std.specs.Prelude.{◌≡◌, ◌++◌, ◌∷◌, [], OnOk};
-ghost use Rattle.pipe_text.specs.Log.{log_head};
 
 use crate::star::Star;
 use pipe_base::{Entry, NoMemory, Service};
@@ -27,7 +26,7 @@ impl Model for ServiceLog {
 }
 
 impl ServiceLog {
-    ghost use Rattle.pipe_cli.specs.HostLog.{with_entries};
+    ghost use Rattle.pipe_cli.specs.HostLog.{one_log, with_entries};
 
     pub fn new(alloc: Global) -> ServiceLog
         ensures { result ≡ record { count = 0; lines = [] } }
@@ -42,19 +41,16 @@ impl ServiceLog {
     pub fn add(&mut self, star: &Star, entry: &Entry) -> Result<(), NoMemory>
         ensures { OnOk result (self.new ≡ with_entries star.now.names (entry.now ∷ []) self.old) }
     {
-        print_log_line(
-            &mut self.lines,
-            entry.key.ts,
-            star.name(entry.key.src),
-            entry.body.bytes(),
-        )?;
-        self.count += 1;
-        Ok(())
+        let host = star.name(entry.key.src);
+        let done = print_log_line(&mut self.lines, entry.key.ts, host, entry.body.bytes());
+        // A line that broke off counts for nothing.
+        self.count = if done.is_ok() { self.count + 1 } else { 0 };
+        done
     }
 
     /// Appends the log with its head.
     pub fn print(&self, out: &mut Vec<u8>, host: &str, service: Service) -> Result<(), NoMemory>
-        ensures { OnOk result (out.new.items ≡ out.old.items ++ log_head host.now service self.now.count ++ self.now.lines) }
+        ensures { OnOk result (out.new.items ≡ out.old.items ++ one_log host.now service self.now) }
     {
         print_log_head(out, host, service, self.count)?;
         out.extend_from_slice(&self.lines)?;
@@ -70,11 +66,10 @@ pub struct HostLog {
 }
 
 impl HostLog {
-    ghost use Rattle.pipe_cli.specs.HostLog.{with_logged};
+    ghost use Rattle.pipe_cli.specs.HostLog.{both_logs, with_logged};
 
     pub fn new(alloc: Global) -> HostLog
-        ensures best { result.best ≡ record { count = 0; lines = [] } }
-        ensures reliable { result.reliable ≡ record { count = 0; lines = [] } }
+        ensures { result ≡ record { best = record { count = 0; lines = [] }; reliable = record { count = 0; lines = [] } } }
     {
         HostLog {
             best: ServiceLog::new(alloc),
@@ -93,5 +88,13 @@ impl HostLog {
             }
         }
         Ok(())
+    }
+
+    /// Appends both logs, best effort first.
+    pub fn print(&self, out: &mut Vec<u8>, host: &str) -> Result<(), NoMemory>
+        ensures { OnOk result (out.new.items ≡ out.old.items ++ both_logs host.now self.now) }
+    {
+        self.best.print(out, host, Service::BestEffort)?;
+        self.reliable.print(out, host, Service::Reliable)
     }
 }

@@ -1,5 +1,5 @@
 // The log text of a trace. Each record is looked at once: what it logged goes to the logs of its host.
-ghost use Rattle.std.specs.Prelude.{◌≡◌, ◌++◌, ◌∷◌, [], List, length, reverse, IfOk, OnOk};
+ghost use Rattle.std.specs.Prelude.{◌≡◌, ◌++◌, ◌∷◌, [], List, ◌≤◌, length, reverse, IfOk, OnOk};
 ghost use Rattle.pipe_model.specs.declared.record.Record.{Record};
 ghost use Rattle.pipe_cli.specs.HostLog.{host_logs};
 ghost use Rattle.pipe_cli.specs.LogText.{log_text};
@@ -8,7 +8,7 @@ ghost use Rattle.pipe_cli.specs.Named.{Named};
 use crate::acting::owner;
 use crate::host_log::HostLog;
 use crate::star::Star;
-use pipe_base::{HostId, NoMemory, Service};
+use pipe_base::{HostId, NoMemory};
 use pipe_model::{Record, Trace};
 use std::alloc::Global;
 
@@ -16,28 +16,36 @@ use std::alloc::Global;
 pub fn print_logs(alloc: Global, star: &Star, trace: &Trace) -> Result<Vec<u8>, NoMemory>
     ensures { IfOk result (λ text. text.items ≡ log_text star.now (reverse trace.now)) }
 {
-    let logs = collect_logs(alloc, star, trace.as_slice())?;
+    let mut logs = empty_logs(alloc, star.hosts())?;
+    add_records(star, &mut logs, trace.as_slice())?;
+    let text = print_all(alloc, star, &logs)?;
+    Ok(text)
+}
+
+fn print_all(alloc: Global, star: &Star, logs: &[HostLog]) -> Result<Vec<u8>, NoMemory>
+    requires { length logs.now ≤ 64 }
+    ensures { IfOk result (λ text. (past : List Record) → logs.now ≡ host_logs star.now past star.now.graph.hosts → text.items ≡ log_text star.now past) }
+{
     let mut text = Vec::new(alloc);
-    'hosts: for (at, log) in logs.iter().enumerate() {
-        let host = star.name(HostId(at as u16));
-        log.best.print(&mut text, host, Service::BestEffort)?;
-        log.reliable.print(&mut text, host, Service::Reliable)?;
+    'logs: for (at, log) in logs.iter().enumerate() {
+        log.print(&mut text, star.name(HostId(at as u16)))?;
     }
     Ok(text)
 }
 
-fn collect_logs(alloc: Global, star: &Star, records: &[Record]) -> Result<Vec<HostLog>, NoMemory>
-    ensures { IfOk result (λ logs. logs.items ≡ host_logs star.now (reverse records.now) star.now.graph.hosts) }
+// Adds what the records logged to the logs of their hosts.
+fn add_records(star: &Star, logs: &mut [HostLog], records: &[Record]) -> Result<(), NoMemory>
+    requires { logs.old ≡ host_logs star.now [] (length logs.old) }
+    ensures { OnOk result (logs.new ≡ host_logs star.now (reverse records.now) (length logs.old)) }
 {
-    let mut logs = empty_logs(alloc, star.hosts())?;
     'records: for record in records {
-        add_record(star, &mut logs, record)?;
+        add_record(star, logs, record)?;
     }
-    Ok(logs)
+    Ok(())
 }
 
 fn empty_logs(alloc: Global, hosts: u16) -> Result<Vec<HostLog>, NoMemory>
-    ensures { (place : Named) → IfOk result (λ logs. logs.items ≡ host_logs place [] hosts) }
+    ensures { IfOk result (λ logs. (place : Named) → logs.items ≡ host_logs place [] hosts) }
 {
     let mut logs = Vec::new(alloc);
     'hosts: for _ in 0..hosts {

@@ -1,0 +1,7 @@
+use Rattle.std.proofs.Common.{◌≡◌, length, take, reverse}
+use Rattle.pipe_cli.specs.HostLog.{host_logs}
+use Rattle.pipe_cli.proofs.log_text.add_records.Given as goal
+
+-- the logs of the records so far
+abbrev pub invariant-records : goal.invariant-records
+invariant-records l = l.logs ≡ host_logs l.star (reverse (take l.record-index l.records)) (length l.initial.logs)

@@ -1,7 +1,0 @@
-use Rattle.std.proofs.Common.{◌≡◌, take, reverse}
-use Rattle.pipe_cli.specs.HostLog.{host_logs}
-use Rattle.pipe_cli.proofs.log_text.collect_logs.Given as goal
-
--- the logs of the records so far
-abbrev pub invariant-records : goal.invariant-records
-invariant-records l = l.logs.items ≡ host_logs l.star (reverse (take l.record-index l.records)) l.star.graph.hosts
