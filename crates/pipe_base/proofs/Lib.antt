@@ -1,2 +1,4 @@
+pub mod BarrierLaws
 pub mod KeyOrder
+pub mod MessageLaws
 pub mod Slices

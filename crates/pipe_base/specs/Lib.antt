@@ -1,8 +1,12 @@
 pub mod Barrier
+pub mod Below
 pub mod Calls
 pub mod Graph
 pub mod Messages
 pub mod Moment
 pub mod Outside
+pub mod Path
+pub mod Reach
 pub mod Route
+pub mod ShortestRoute
 pub mod Step

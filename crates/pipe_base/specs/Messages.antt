@@ -1,11 +1,12 @@
 -- Messages that a host holds: pairs of a key and a body, in the total order.
-use Rattle.std.specs.Prelude.{◌≡◌, ◌⊎◌, ℕ, ◌<◌, ◌==◌, ◌&&◌, nat_lt, nat_le, Bool, List, [], ◌∷◌, filter, All}
+use Rattle.std.specs.Prelude.{◌≡◌, ◌⊎◌, ℕ, ◌<◌, ◌==◌, ◌&&◌, not, nat_lt, nat_le, Bool, List, [], ◌∷◌, map, filter, All}
 use Rattle.std.specs.List.{list_any}
 use Rattle.std.specs.Ordering.{nat_cmp, ordering_then}
 use Rattle.std.specs.declared.cmp.Ordering.{Ordering}
 use Rattle.std.specs.BTreeMap.{insert_entry}
 use Rattle.pipe_base.specs.declared.message.Key.{Key}
 use Rattle.pipe_base.specs.declared.message.Entry.{Entry}
+use Rattle.pipe_base.specs.declared.message.Service.{Service}
 
 abbrev pub Messages : Type 0
 Messages = List (Key × List ℕ)
@@ -34,6 +35,10 @@ same_key a b = (a.ts.0 == b.ts.0) && (a.src.0 == b.src.0)
 abbrev pub has_key : Key → Messages → Bool
 has_key key messages = list_any (λ m. same_key m.0 key) messages
 
+-- the messages but for one with this key
+abbrev pub without_message : Key → Messages → Messages
+without_message key messages = filter (λ m. not (same_key m.0 key)) messages
+
 -- the messages whose timestamp is at least a barrier
 abbrev pub from_barrier : ℕ → Messages → Messages
 from_barrier barrier messages = filter (λ m. nat_le barrier m.0.ts.0) messages
@@ -45,3 +50,7 @@ below_barrier barrier messages = filter (λ m. nat_lt m.0.ts.0 barrier) messages
 -- a message as a line of the log
 abbrev pub entry_of : (Key × List ℕ) → Entry
 entry_of m = record { key = m.0; body = m.1 }
+
+-- messages as lines of the log of a service
+abbrev pub logged_of : Service → Messages → List (Service × Entry)
+logged_of service messages = map (λ m. (service, entry_of m)) messages

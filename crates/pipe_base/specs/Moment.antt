@@ -1,5 +1,6 @@
 -- What happens at one node to its in-links, one moment at a time, newest first.
 use Rattle.std.specs.Prelude.{ℕ, ◌==◌, if◌then◌else◌, Bool, true, false, List, [], ◌∷◌, filter}
+use Rattle.std.specs.List.{list_any}
 use Rattle.pipe_base.specs.declared.name.LinkId.{LinkId}
 use Rattle.pipe_base.specs.declared.packet.Plane.{Plane}
 use Rattle.pipe_base.specs.declared.packet.Plane.TheVariants.{BestEffort, Commit}
@@ -38,3 +39,7 @@ is_used Commit past link = is_kept past link
 -- the in-links that are in use
 abbrev pub in_use : Plane → List LinkId → List Moment → List LinkId
 in_use plane ins past = filter (λ l. is_used plane past l.0) ins
+
+-- a link with this number is among them
+abbrev pub has_link : ℕ → List LinkId → Bool
+has_link link ls = list_any (λ l. l.0 == link) ls

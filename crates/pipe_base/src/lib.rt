@@ -1,5 +1,5 @@
 //! The words that every other crate speaks: names of hosts, nodes and links, timestamps, packets, control messages,
-//! what one step of a node tells, and the traits of the outside world with their forms in memory.
+//! what one step of a node tells, where a packet goes next, and the traits of the outside world with their forms in memory.
 #![tactic(auto)]
 
 mod body;
@@ -11,6 +11,7 @@ mod message;
 mod name;
 mod outside;
 mod packet;
+mod router;
 mod steady;
 mod step;
 
@@ -23,5 +24,9 @@ pub use message::{Dest, DestList, Entry, Key, LoggedList, Message, Service};
 pub use name::{HostId, LAST_BARRIER, LAST_STAMP, Link, LinkId, NodeId, Ts};
 pub use outside::{Sink, Source};
 pub use packet::{Packet, PacketKind, Plane};
+pub use router::Router;
 pub use steady::{SteadySink, SteadySource};
 pub use step::{AddressedList, DownList, Fate, Outcome, PutList, Step};
+
+#[cfg(test)]
+mod tests;

@@ -1,0 +1,29 @@
+-- What the registers of a node keep, and what they stand for.
+use Rattle.std.specs.Prelude.{◌≡◌, ℕ, List, map}
+use Rattle.pipe_base.specs.declared.name.LinkId.{LinkId}
+use Rattle.pipe_base.specs.declared.packet.Plane.TheVariants.{BestEffort, Commit}
+use Rattle.pipe_base.specs.Moment.{Moment}
+use Rattle.pipe_base.specs.Barrier.{barrier}
+use Rattle.pipe_barrier.specs.declared.register.Register.{Register}
+use Rattle.pipe_barrier.specs.declared.registers.Barriers.{Barriers}
+use Rattle.pipe_barrier.specs.Register.{register_of}
+
+-- the registers in the order of the in-links, and the two barriers
+pub record Kept : Type 0 where
+  pub links : List Register
+  pub be : ℕ
+  pub commit : ℕ
+
+abbrev pub kept_with : List Register → Barriers → Kept
+kept_with links b = record { links = links; be = b.be.0; commit = b.commit.0 }
+
+-- the two are the barriers of a node with these in-links after these moments
+pub record AreBarriers (ins : List LinkId) (past : List Moment) (b : Barriers) : Type 0 where
+  pub be_is : b.be.0 ≡ barrier BestEffort ins past
+  pub commit_is : b.commit.0 ≡ barrier Commit ins past
+
+-- what is kept is what the rules say of a node with these in-links after these moments
+pub record Stands (ins : List LinkId) (kept : Kept) (past : List Moment) : Type 0 where
+  pub links_are : kept.links ≡ map (register_of past) ins
+  pub be_is : kept.be ≡ barrier BestEffort ins past
+  pub commit_is : kept.commit ≡ barrier Commit ins past

@@ -1,0 +1,190 @@
+// The registers of a node and its two barriers.
+ghost use Rattle.std.specs.Prelude.{◌≡◌, ◌==◌, ◌&&◌, ◌∷◌, [], if◌then◌else◌, List, max, map, not, None, unwrap_or, find, option_copied, IfOk};
+ghost use Rattle.pipe_base.specs.declared.packet.Plane.TheVariants.{BestEffort, Commit};
+ghost use Rattle.pipe_base.specs.Moment.{Moment, Received, WentDown, Dropped, is_up, is_kept, has_link};
+ghost use Rattle.pipe_base.specs.Barrier.{register};
+ghost use Rattle.pipe_barrier.specs.Register.{moment_of, register_after, least_from};
+ghost use Rattle.pipe_barrier.specs.Registers.{Kept, Stands, AreBarriers, kept_with};
+
+use crate::change::Change;
+use crate::register::{Register, lower};
+use pipe_base::{LinkId, NoMemory, Ts};
+use std::alloc::Global;
+use std::marker::Model;
+
+/// The two barriers of a node.
+#[derive(Clone, Copy, Debug, PartialEq, Eq)]
+pub struct Barriers {
+    pub be: Ts,
+    pub commit: Ts,
+}
+
+impl Barriers {
+    /// The barriers after a look at the least registers in use. A barrier never falls.
+    fn follow(self, be: Option<u64>, commit: Option<u64>) -> Barriers
+        ensures be { result.be.0 ≡ max self.be.0 (unwrap_or be 0) }
+        ensures commit { result.commit.0 ≡ max self.commit.0 (unwrap_or commit 0) }
+    {
+        Barriers {
+            be: Ts(self.be.0.max(be.unwrap_or(0))),
+            commit: Ts(self.commit.0.max(commit.unwrap_or(0))),
+        }
+    }
+}
+
+/// Per in-link of a node the greatest barriers received, and the node's own two barriers.
+#[derive(Clone, Debug, Drop)]
+pub struct Registers {
+    links: Vec<Register>,
+    barriers: Barriers,
+}
+
+impl Model for Registers {
+    ghost use Rattle.pipe_barrier.specs.Registers.{Kept, kept_with};
+
+    ghost Value = { Kept };
+
+    ghost view = { λ r. kept_with r.links.items r.barriers };
+}
+
+impl Registers {
+    /// Registers at 0 for in-links that are all in use.
+    pub fn new(alloc: Global, ins: &[LinkId]) -> Result<Registers, NoMemory>
+        ensures { IfOk result (λ registers. Stands ins.now registers []) }
+    {
+        let mut links = Vec::with_capacity(alloc, ins.len())?;
+        for link in ins {
+            links.push(Register::new(*link))?;
+        }
+        Ok(Registers {
+            links,
+            barriers: Barriers {
+                be: Ts(0),
+                commit: Ts(0),
+            },
+        })
+    }
+
+    /// A packet was received on an in-link that is up. One walk over the in-links.
+    pub fn raise(&mut self, link: LinkId, be: Ts, commit: Ts)
+        ensures { (ins : List LinkId) (past : List Moment) → Stands ins self.old past → Stands ins self.new (Received link.0 be.0 commit.0 ∷ past) }
+    {
+        self.change(link, Change::Received { be, commit });
+    }
+
+    /// An in-link that was up went down. One walk over the in-links.
+    pub fn down(&mut self, link: LinkId)
+        ensures { (ins : List LinkId) (past : List Moment) → Stands ins self.old past → Stands ins self.new (WentDown link.0 ∷ past) }
+    {
+        self.change(link, Change::WentDown);
+    }
+
+    /// The node came to know an in-link as dropped. One walk over the in-links.
+    pub fn remove(&mut self, link: LinkId)
+        ensures { (ins : List LinkId) (past : List Moment) → Stands ins self.old past → Stands ins self.new (Dropped link.0 ∷ past) }
+    {
+        self.change(link, Change::Dropped);
+    }
+
+    fn change(&mut self, link: LinkId, change: Change)
+        ensures { (ins : List LinkId) (past : List Moment) → Stands ins self.old past → Stands ins self.new (moment_of link change ∷ past) }
+    {
+        self.barriers = change_all(&mut self.links, self.barriers, link, change);
+    }
+
+    /// The barriers that `raise` would lead to.
+    pub fn raised(&self, link: LinkId, be: Ts, commit: Ts) -> Barriers
+        ensures { (ins : List LinkId) (past : List Moment) → Stands ins self.now past → AreBarriers ins (Received link.0 be.0 commit.0 ∷ past) result }
+    {
+        barriers_after(
+            &self.links,
+            self.barriers,
+            link,
+            Change::Received { be, commit },
+        )
+    }
+
+    /// Whether the link is an in-link that is up.
+    pub fn is_up(&self, link: LinkId) -> bool
+        ensures { (ins : List LinkId) (past : List Moment) → Stands ins self.now past → result ≡ (has_link link.0 ins && is_up past link.0) }
+    {
+        match self.find(link) {
+            Some(register) => register.up,
+            None => false,
+        }
+    }
+
+    /// Whether the link is an in-link that is known as dropped.
+    pub fn is_removed(&self, link: LinkId) -> bool
+        ensures { (ins : List LinkId) (past : List Moment) → Stands ins self.now past → result ≡ (has_link link.0 ins && not (is_kept past link.0)) }
+    {
+        match self.find(link) {
+            Some(register) => !register.kept,
+            None => false,
+        }
+    }
+
+    /// The commit register of an in-link, which stands still once the link is down. 0 for any other link.
+    pub fn frozen(&self, link: LinkId) -> Ts
+        ensures { (ins : List LinkId) (past : List Moment) → Stands ins self.now past → result.0 ≡ (if has_link link.0 ins then register Commit past link.0 else 0) }
+    {
+        match self.find(link) {
+            Some(register) => register.commit,
+            None => Ts(0),
+        }
+    }
+
+    fn find(&self, link: LinkId) -> Option<&Register>
+        ensures { option_copied result ≡ find (λ r. r.link.0 == link.0) self.now.links }
+    {
+        self.links.iter().find(|r| r.link.0 == link.0)
+    }
+
+    /// The best-effort barrier.
+    pub fn be(&self) -> Ts
+        ensures { result.0 ≡ self.now.be }
+    {
+        self.barriers.be
+    }
+
+    /// The commit barrier.
+    pub fn commit(&self) -> Ts
+        ensures { result.0 ≡ self.now.commit }
+    {
+        self.barriers.commit
+    }
+
+    pub fn try_clone(&self) -> Result<Registers, NoMemory>
+        ensures { IfOk result (λ copy. copy ≡ self.now) }
+    {
+        Ok(self.clone()?)
+    }
+}
+
+/// Changes the register of one link and lets the barriers follow, in one walk.
+fn change_all(links: &mut [Register], barriers: Barriers, link: LinkId, change: Change) -> Barriers
+    ensures { (ins : List LinkId) (past : List Moment) → Stands ins (kept_with links.old barriers) past → Stands ins (kept_with links.new result) (moment_of link change ∷ past) }
+{
+    let mut be = None;
+    let mut commit = None;
+    'links: for register in links.iter_mut() {
+        *register = register.after(link, change);
+        be = lower(be, register.up, register.be);
+        commit = lower(commit, register.kept, register.commit);
+    }
+    barriers.follow(be, commit)
+}
+
+/// The barriers that `change_all` would lead to.
+fn barriers_after(links: &[Register], barriers: Barriers, link: LinkId, change: Change) -> Barriers
+    ensures { (ins : List LinkId) (past : List Moment) → Stands ins (kept_with links.now barriers) past → AreBarriers ins (moment_of link change ∷ past) result }
+{
+    let mut be = None;
+    let mut commit = None;
+    'links: for register in links {
+        let register = register.after(link, change);
+        be = lower(be, register.up, register.be);
+        commit = lower(commit, register.kept, register.commit);
+    }
+    barriers.follow(be, commit)
+}

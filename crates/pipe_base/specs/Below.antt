@@ -1,0 +1,7 @@
+-- Tests on the numbers below a bound.
+use Rattle.std.specs.Prelude.{ℕ, zero, suc, Bool, false, ◌||◌}
+
+-- some number below the bound passes the test
+abbrev pub any_below : (ℕ → Bool) → ℕ → Bool
+any_below test zero = false
+any_below test (suc n) = test n || any_below test n

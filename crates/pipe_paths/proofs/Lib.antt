@@ -1,0 +1,7 @@
+pub mod BelowLaws
+pub mod PathLaws
+pub mod ReachLaws
+pub mod Rounds
+pub mod Shortest
+pub mod Tests
+pub mod Turn

@@ -1,0 +1,59 @@
+-- Lemmas on paths: joined at a half, split at a link, by a larger set.
+use Rattle.std.proofs.Common.{◌≡◌, ℕ, ◌+◌, ◌<◌, ◌≤◌, Bool, true, List, [], ◌∷◌, ◌++◌, length, refl, sym, ap, subst, ◌∙◌, arith}
+use Rattle.pipe_base.specs.Graph.{Graph, IsGraph, tail_of, head_of, is_half}
+use Rattle.pipe_base.specs.Path.{LeavesBy, Leads, IsPath}
+
+-- a set with at least the links of another
+abbrev pub HasAll : Graph → (ℕ → Bool) → (ℕ → Bool) → Type 0
+HasAll g small large = (l : ℕ) → l < length g.links → small l ≡ true → large l ≡ true
+
+leaves_more : (g : Graph) (small large : ℕ → Bool) (n l : ℕ) → HasAll g small large → LeavesBy g small n l → LeavesBy g large n l
+leaves_more g small large n l more leaves = record { known = leaves.known; used = more l leaves.known leaves.used; begins = leaves.begins }
+
+pub leads_more : (g : Graph) (small large : ℕ → Bool) (n b : ℕ) (ls : List ℕ) → HasAll g small large → Leads g small n b ls → Leads g large n b ls
+leads_more g small large n b [] more leads = leads
+leads_more g small large n b (l ∷ ls) more leads =
+    (leads.0, leaves_more g small large n l more leads.1, leads_more g small large (head_of g l) b ls more leads.2)
+
+pub path_more : (g : Graph) (small large : ℕ → Bool) (a b : ℕ) (p : List ℕ) → HasAll g small large → IsPath g small a b p → IsPath g large a b p
+path_more g small large a b [] more path = path
+path_more g small large a b (l ∷ ls) more path =
+    (leaves_more g small large a l more path.0, leads_more g small large (head_of g l) b ls more path.1)
+
+pub leads_append : (g : Graph) (by : ℕ → Bool) (a m b : ℕ) (ps qs : List ℕ) → Leads g by a m ps → Leads g by m b qs → Leads g by a b (ps ++ qs)
+leads_append g by a m b [] qs ps_lead qs_lead = subst (λ (n : ℕ). Leads g by n b qs) (sym ps_lead) qs_lead
+leads_append g by a m b (l ∷ ps) qs ps_lead qs_lead =
+    (ps_lead.0, ps_lead.1, leads_append g by (head_of g l) m b ps qs ps_lead.2 qs_lead)
+
+-- a path from a half leads on from it
+pub path_leads : (g : Graph) (by : ℕ → Bool) (a b : ℕ) (p : List ℕ) → is_half g a ≡ true → IsPath g by a b p → Leads g by a b p
+path_leads g by a b [] half path = absurd path
+path_leads g by a b (l ∷ ls) half path = (half, path.0, path.1)
+
+pub path_append : (g : Graph) (by : ℕ → Bool) (a m b : ℕ) (ps qs : List ℕ) → is_half g m ≡ true → IsPath g by a m ps → IsPath g by m b qs → IsPath g by a b (ps ++ qs)
+path_append g by a m b [] qs half front back = absurd front
+path_append g by a m b (l ∷ ps) qs half front back =
+    (front.0, leads_append g by (head_of g l) m b ps qs front.1 (path_leads g by m b qs half back))
+
+pub leads_split : (g : Graph) (by : ℕ → Bool) (a b l : ℕ) (before after : List ℕ) → Leads g by a b (before ++ l ∷ after)
+    → Leads g by a (head_of g l) (before ++ l ∷ []) × Leads g by (head_of g l) b after
+leads_split g by a b l [] after leads = ((leads.0, leads.1, refl), leads.2)
+leads_split g by a b l (k ∷ before) after leads =
+    let rest = leads_split g by (head_of g k) b l before after leads.2 in
+    ((leads.0, leads.1, rest.0), rest.1)
+
+pub path_split : (g : Graph) (by : ℕ → Bool) (a b l : ℕ) (before after : List ℕ) → IsPath g by a b (before ++ l ∷ after)
+    → IsPath g by a (head_of g l) (before ++ l ∷ []) × Leads g by (head_of g l) b after
+path_split g by a b l [] after path = ((path.0, refl), path.1)
+path_split g by a b l (k ∷ before) after path =
+    let rest = leads_split g by (head_of g k) b l before after path.1 in
+    ((path.0, rest.0), rest.1)
+
+pub leads_end : (g : Graph) (by : ℕ → Bool) (n b : ℕ) (ls : List ℕ) → IsGraph g → n < g.nodes → Leads g by n b ls → b < g.nodes
+leads_end g by n b [] graph lt leads = subst (λ (m : ℕ). m < g.nodes) leads lt
+leads_end g by n b (l ∷ ls) graph lt leads = leads_end g by (head_of g l) b ls graph (graph.heads_in l leads.1.known) leads.2
+
+-- a path ends at a node of the graph
+pub path_end : (g : Graph) (by : ℕ → Bool) (a b : ℕ) (p : List ℕ) → IsGraph g → IsPath g by a b p → b < g.nodes
+path_end g by a b [] graph path = absurd path
+path_end g by a b (l ∷ ls) graph path = leads_end g by (head_of g l) b ls graph (graph.heads_in l path.0.known) path.1

@@ -1,0 +1,37 @@
+-- Lemmas on the least number that passes a test.
+use Rattle.std.proofs.Common.{◌≡◌, ℕ, zero, suc, ◌+◌, ◌<◌, ◌≤◌, Bool, true, false, if◌then◌else◌, Option, None, Some, inl, inr, refl, sym, ap, subst, ◌∙◌, true≢false, arith}
+use Rattle.std.proofs.lemmas.Bool.Decides.{eqb_tells}
+use Rattle.pipe_topo.specs.First.{first_of, first_below}
+
+first_of_none : (o : Option ℕ) → first_of o None ≡ o
+first_of_none None = refl
+first_of_none (Some n) = refl
+
+pub first_more : (p : ℕ → Bool) (k : ℕ) → first_below p k ≡ None → p k ≡ false → first_below p (k + 1) ≡ None
+first_more p k none isnt =
+    let e : k + 1 ≡ suc k = omega arith in
+    rw e (rw (none, isnt) refl)
+
+-- none before k, k passes: k is the first of all below n
+pub first_at : (p : ℕ → Bool) (n k : ℕ) → k < n → first_below p k ≡ None → p k ≡ true → first_below p n ≡ Some k
+first_at p zero k lt none is = absurd (omega arith)
+first_at p (suc n) k lt none is =
+    elim (eqb_tells k n) [
+      inl same ↦ subst (λ (m : ℕ). first_below p (suc m) ≡ Some k) same.1 (rw (none, is) refl)
+    | inr other ↦ let apart = other.1 in rw (first_at p n k (omega arith) none is) refl
+    ]
+
+-- no number below the bound passes
+pub first_none : (p : ℕ → Bool) (n k : ℕ) → first_below p n ≡ None → k < n → p k ≡ false
+first_none p zero k none lt = absurd (omega arith)
+first_none p (suc n) k none lt = pick (λ before below. first_none p n k before below) (first_below p n) (p n) refl refl none
+  where
+    pick : (first_below p n ≡ None → k < n → p k ≡ false) → (before : Option ℕ) (here : Bool)
+        → first_below p n ≡ before → p n ≡ here → first_of before (if here then Some n else None) ≡ None → p k ≡ false
+    pick earlier None false none_before isnt h =
+        elim (eqb_tells k n) [
+          inl same ↦ subst (λ (m : ℕ). p m ≡ false) (sym same.1) isnt
+        | inr other ↦ let apart = other.1 in earlier none_before (omega arith)
+        ]
+    pick earlier None true none_before is h = cc
+    pick earlier (Some m) here some_before is h = cc

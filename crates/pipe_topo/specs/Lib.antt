@@ -1,0 +1,5 @@
+pub mod Fault
+pub mod First
+pub mod Plan
+pub mod Sets
+pub mod Tables

@@ -1,0 +1,15 @@
+//! Networks: plans of hosts, switches and cables, the graph of links that a plan stands for, who reaches whom in it,
+//! and sets of links and hosts.
+#![tactic(auto)]
+
+mod fault;
+mod links;
+mod plan;
+mod shape;
+mod tables;
+mod topology;
+
+pub use fault::{TopoFault, What};
+pub use links::LinkSet;
+pub use plan::{Cable, CableEnd, CableList, LevelList, Plan};
+pub use topology::Topology;

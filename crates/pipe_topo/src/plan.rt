@@ -1,0 +1,38 @@
+// A plan of a network: hosts, switches with levels, and the cables between them.
+use pipe_base::{List, NoMemory, Ts};
+
+/// One end of a cable.
+#[derive(Clone, Copy, Debug, PartialEq, Eq)]
+pub enum CableEnd {
+    Host(u16),
+    Switch(u16),
+}
+
+/// A cable joins a host and a switch, or two switches of different levels.
+pub type Cable = (CableEnd, CableEnd);
+
+/// The level of each switch, from 1 to 15.
+pub type LevelList = List<u8>;
+
+/// The cables, in planned order.
+pub type CableList = List<Cable>;
+
+/// What a network is built from.
+#[derive(Clone, Drop)]
+pub struct Plan {
+    pub hosts: u16,
+    pub levels: LevelList,
+    pub cables: CableList,
+    /// How long a link may be silent before it counts as down.
+    pub patience: Ts,
+}
+
+impl Plan {
+    ghost use Rattle.std.specs.Prelude.{◌≡◌, IfOk};
+
+    pub fn try_clone(&self) -> Result<Plan, NoMemory>
+        ensures { IfOk result (λ copy. copy ≡ self.now) }
+    {
+        Ok(self.clone()?)
+    }
+}

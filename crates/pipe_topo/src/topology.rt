@@ -1,0 +1,117 @@
+// A network as a graph: nodes, and links with a tail and a head each.
+ghost use Rattle.std.specs.Prelude.{◌≡◌, ℕ, ◌+◌, ◌*◌, ◌<◌, ◌≤◌, length, All, IfOk};
+ghost use Rattle.pipe_base.specs.Graph.{Graph, IsGraph, head_of, ins_of, is_half, outs_of, tail_of};
+
+use pipe_base::{Link, LinkId, List, NoMemory, NodeId, Ts};
+use std::marker::Model;
+
+/// The nodes are first the hosts, then for each switch its up half and its down half. Cable c has the links `2 * c`,
+/// which goes up, and `2 * c + 1`, which goes down; after these each switch has a loop link from its up half to its
+/// down half.
+#[derive(Clone, Drop)]
+pub struct Topology {
+    pub(crate) hosts: u16,
+    pub(crate) switches: u16,
+    pub(crate) links: Vec<Link>,
+    pub(crate) ins: Vec<List<LinkId>>,
+    pub(crate) outs: Vec<List<LinkId>>,
+    pub(crate) patience: Ts,
+}
+
+impl Model for Topology {
+    ghost use Rattle.std.specs.Prelude.{◌+◌, ◌*◌};
+    ghost use Rattle.pipe_base.specs.Graph.{Graph};
+    ghost use Rattle.pipe_topo.specs.Tables.{HasTables};
+
+    ghost Value = { Graph };
+
+    ghost view = { λ t. record { hosts = t.hosts; nodes = t.hosts + 2 * t.switches; links = t.links.items; patience = t.patience.0 } };
+
+    ghost invariant = { λ t. HasTables (record { hosts = t.hosts; nodes = t.hosts + 2 * t.switches; links = t.links.items; patience = t.patience.0 }) t.switches t.ins.items t.outs.items };
+}
+
+impl Topology {
+    pub fn hosts(&self) -> u16
+        ensures value { result ≡ self.now.hosts }
+        ensures few { result ≤ 64 }
+    {
+        self.hosts
+    }
+
+    pub fn switches(&self) -> u16
+        ensures value { self.now.nodes ≡ self.now.hosts + 2 * result }
+        ensures few { result ≤ 64 }
+    {
+        self.switches
+    }
+
+    pub fn nodes(&self) -> u16
+        ensures value { result ≡ self.now.nodes }
+        ensures few { result ≤ 192 }
+        ensures joined { IsGraph self.now }
+    {
+        self.hosts + 2 * self.switches
+    }
+
+    pub fn links(&self) -> u16
+        ensures value { result ≡ length self.now.links }
+        ensures few { result ≤ 1088 }
+    {
+        self.links.len() as u16
+    }
+
+    /// Where the link begins.
+    pub fn tail(&self, link: LinkId) -> NodeId
+        requires { link.0 < length self.now.links }
+        ensures value { result.0 ≡ tail_of self.now link.0 }
+        ensures known { result.0 < self.now.nodes }
+    {
+        self.links[usize::from(link.0)].tail
+    }
+
+    /// Where the link ends.
+    pub fn head(&self, link: LinkId) -> NodeId
+        requires { link.0 < length self.now.links }
+        ensures value { result.0 ≡ head_of self.now link.0 }
+        ensures known { result.0 < self.now.nodes }
+    {
+        self.links[usize::from(link.0)].head
+    }
+
+    /// The links that end at the node, in rising number.
+    pub fn ins(&self, node: NodeId) -> &[LinkId]
+        requires { node.0 < self.now.nodes }
+        ensures value { result.now ≡ ins_of self.now node.0 }
+        ensures known { All (λ l. l.0 < length self.now.links) result.now }
+    {
+        self.ins[usize::from(node.0)].as_slice()
+    }
+
+    /// The links that begin at the node, in rising number.
+    pub fn outs(&self, node: NodeId) -> &[LinkId]
+        requires { node.0 < self.now.nodes }
+        ensures value { result.now ≡ outs_of self.now node.0 }
+        ensures known { All (λ l. l.0 < length self.now.links) result.now }
+    {
+        self.outs[usize::from(node.0)].as_slice()
+    }
+
+    pub fn patience(&self) -> Ts
+        ensures { result.0 ≡ self.now.patience }
+    {
+        self.patience
+    }
+
+    /// The node is a half of a switch, and no host.
+    pub fn is_half(&self, node: NodeId) -> bool
+        ensures { result ≡ is_half self.now node.0 }
+    {
+        self.hosts <= node.0
+    }
+
+    pub fn try_clone(&self) -> Result<Topology, NoMemory>
+        ensures { IfOk result (λ copy. copy ≡ self.now) }
+    {
+        Ok(self.clone()?)
+    }
+}
