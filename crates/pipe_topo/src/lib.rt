@@ -2,14 +2,22 @@
 //! and sets of links and hosts.
 #![tactic(auto)]
 
+mod apart;
+mod build;
+mod distances;
 mod fault;
 mod links;
+mod names;
 mod plan;
+mod reach;
 mod shape;
 mod tables;
 mod topology;
+mod walk;
 
+pub use distances::{Distances, FAR};
 pub use fault::{TopoFault, What};
 pub use links::LinkSet;
+pub use names::Names;
 pub use plan::{Cable, CableEnd, CableList, LevelList, Plan};
 pub use topology::Topology;

@@ -1,5 +1,6 @@
 // A plan of a network: hosts, switches with levels, and the cables between them.
 use pipe_base::{List, NoMemory, Ts};
+use std::alloc::Global;
 
 /// One end of a cable.
 #[derive(Clone, Copy, Debug, PartialEq, Eq)]
@@ -29,6 +30,25 @@ pub struct Plan {
 
 impl Plan {
     ghost use Rattle.std.specs.Prelude.{◌≡◌, IfOk};
+    ghost use Rattle.pipe_topo.specs.Star.{star_plan};
+
+    /// So many hosts at one switch of level 1, with a cable per host in order.
+    pub fn star(alloc: Global, hosts: u16, patience: Ts) -> Result<Plan, NoMemory>
+        ensures { IfOk result (λ plan. plan ≡ star_plan hosts patience) }
+    {
+        let mut levels = List::new(alloc);
+        levels.push(1)?;
+        let mut cables = List::new(alloc);
+        for host in 0..hosts {
+            cables.push((CableEnd::Host(host), CableEnd::Switch(0)))?;
+        }
+        Ok(Plan {
+            hosts,
+            levels,
+            cables,
+            patience,
+        })
+    }
 
     pub fn try_clone(&self) -> Result<Plan, NoMemory>
         ensures { IfOk result (λ copy. copy ≡ self.now) }
