@@ -1,9 +1,9 @@
 -- Lemmas on logs as they are printed.
-use Rattle.std.proofs.Common.{◌≡◌, ◌≢◌, ℕ, ◌+◌, ◌<◌, ◌≤◌, ◌==◌, Bool, true, false, zero, suc, List, [], ◌∷◌, ◌++◌, length, map, set, take, get_or, reverse, eq-eqb, Option, None, Some, refl, ap, sym, subst, ◌∙◌, arith, if◌then◌else◌, append_assoc, length-append, filter}
+use Rattle.std.proofs.Common.{◌≡◌, ◌≢◌, ℕ, ◌+◌, ◌<◌, ◌≤◌, ◌==◌, Bool, true, false, zero, suc, List, [], ◌∷◌, ◌++◌, length, map, set, take, drop, get_or, reverse, eq-eqb, Option, None, Some, refl, ap, sym, subst, ◌∙◌, arith, if◌then◌else◌, append_assoc, length-append, filter}
 use Rattle.std.specs.List.{flat_map, range_with_len}
 use Rattle.std.proofs.lemmas.Bool.{ne_eqb}
 use Rattle.std.proofs.lemmas.Grind.{flat_map-append}
-use Rattle.std.proofs.lemmas.List.{reverse-append, take_more, append-nil}
+use Rattle.std.proofs.lemmas.List.{reverse-append, take_more, append-nil, take_at, drop_all}
 use Rattle.std.proofs.lemmas.List.FromFn.{length-map-range_with_len}
 use Rattle.pipe_base.specs.declared.name.NodeId.{NodeId}
 use Rattle.pipe_base.specs.declared.message.Entry.{Entry}
@@ -48,20 +48,26 @@ host_log-yes place r past host is =
 host_log-no : (place : Named) (r : Record) (past : List Record) (host : ℕ) → is_own place.graph host r ≡ false
     → host_log place past host ≡ host_log place (r ∷ past) host
 host_log-no place r past host is =
-    let same = own_no place r past host is in
-    λ i. record { best = printed place.names (log BestEffort (same (~ i))); reliable = printed place.names (log Reliable (same (~ i))) }
+    let same : (service : Service) → printed place.names (log service (own place.graph host past))
+          ≡ printed place.names (log service (own place.graph host (r ∷ past)))
+        = λ service. ap (λ rs. printed place.names (log service rs)) (sym (own_no place r past host is)) in
+    λ i. record { best = same BestEffort i; reliable = same Reliable i }
 
 other_node : (node : NodeId) (k : ℕ) → k ≢ node.0 → is_node k (Some node) ≡ false
 other_node node k other = ne_eqb node.0 k (λ is. other (sym is))
 
+pub length-host_logs : (place : Named) (past : List Record) (n : ℕ) → length (host_logs place past n) ≡ n
+length-host_logs place past n = length-map-range_with_len (host_log place past) 0 n
+
 -- a record of a host
-pub logs_set : (place : Named) (r : Record) (past : List Record) (logs : List HostLog) (n i : ℕ) (node : NodeId) (held now : HostLog)
-    → ((k : ℕ) → is_own place.graph k r ≡ is_node k (Some node)) → i ≡ node.0 → i < n → held ≡ get_or logs i held
-    → now ≡ with_logged place.names r.step.logged held → logs ≡ host_logs place past n → set logs i now ≡ host_logs place (r ∷ past) n
-logs_set place r past logs n i node held now owner at within is added so_far =
+pub logs_set : (place : Named) (r : Record) (past : List Record) (logs : List HostLog) (n i : ℕ) (node : NodeId) (d now : HostLog)
+    → ((k : ℕ) → is_own place.graph k r ≡ is_node k (Some node)) → i ≡ node.0 → i < length logs
+    → now ≡ with_logged place.names r.step.logged (get_or logs i d) → logs ≡ host_logs place past n → set logs i now ≡ host_logs place (r ∷ past) n
+logs_set place r past logs n i node d now owner at inside added so_far =
     let here : 0 + i ≡ i = omega arith in
-    let old : held ≡ host_log place past i
-        = is ∙ ap (λ ls. get_or ls i held) so_far ∙ get_or-map_range (host_log place past) 0 n i held within ∙ ap (host_log place past) here in
+    let within : i < n = omega (arith, ap length so_far, length-host_logs place past n) in
+    let old : get_or logs i d ≡ host_log place past i
+        = ap (λ ls. get_or ls i d) so_far ∙ get_or-map_range (host_log place past) 0 n i d within ∙ ap (host_log place past) here in
     let own_one : is_own place.graph i r ≡ true = owner i ∙ eq-eqb node.0 i (sym at) in
     let new : now ≡ host_log place (r ∷ past) (0 + i)
         = added ∙ ap (with_logged place.names r.step.logged) old ∙ host_log-yes place r past i own_one ∙ ap (host_log place (r ∷ past)) (sym here) in
@@ -70,19 +76,22 @@ logs_set place r past logs n i node held now owner at within is added so_far =
       (λ k other. host_log-no place r past k (owner k ∙ other_node node k (omega arith)))
 
 -- a record of a node that is no host
-pub logs_same : (place : Named) (r : Record) (past : List Record) (n : ℕ) (node : NodeId)
-    → ((k : ℕ) → is_own place.graph k r ≡ is_node k (Some node)) → n ≤ node.0 → host_logs place past n ≡ host_logs place (r ∷ past) n
-logs_same place r past n node owner beyond =
-    map_range-same (host_log place past) (host_log place (r ∷ past)) 0 n
+pub logs_same : (place : Named) (r : Record) (past : List Record) (logs : List HostLog) (n : ℕ) (node : NodeId)
+    → ((k : ℕ) → is_own place.graph k r ≡ is_node k (Some node)) → length logs ≤ node.0 → logs ≡ host_logs place past n
+    → logs ≡ host_logs place (r ∷ past) n
+logs_same place r past logs n node owner beyond so_far =
+    let count : length logs ≡ n = ap length so_far ∙ length-host_logs place past n in
+    so_far ∙ map_range-same (host_log place past) (host_log place (r ∷ past)) 0 n
     (λ k low high. host_log-no place r past k (owner k ∙ other_node node k (omega arith)))
 
-pub length-host_logs : (place : Named) (past : List Record) (n : ℕ) → length (host_logs place past n) ≡ n
-length-host_logs place past n = length-map-range_with_len (host_log place past) 0 n
-
--- the logs of as many hosts as there are logs
-pub logs_of_length : (place : Named) (past : List Record) (logs : List HostLog) (n : ℕ) → logs ≡ host_logs place past n
-    → logs ≡ host_logs place past (length logs)
-logs_of_length place past logs n is = is ∙ ap (host_logs place past) (sym (length-host_logs place past n) ∙ ap length (sym is))
+-- logs that were lent and came back
+pub lent_logs : (place : Named) (before after : List Record) (len n : ℕ) (new old now : List HostLog) → now ≡ take len (new ++ drop (length new) old)
+    → len ≡ length old → old ≡ host_logs place before n → new ≡ host_logs place after n → now ≡ host_logs place after n
+lent_logs place before after len n new old now is len_is start done =
+    let old_count : length old ≡ n = ap length start ∙ length-host_logs place before n in
+    let new_count : length new ≡ n = ap length done ∙ length-host_logs place after n in
+    let beyond : drop (length new) old ≡ [] = drop_all (length new) old (omega arith) in
+    is ∙ ap (λ xs. take len (new ++ xs)) beyond ∙ take_at new [] len (omega arith) ∙ done
 
 -- one host more
 pub text_more : (place : Named) (past : List Record) (logs : List HostLog) (i : ℕ) (log : HostLog) (name before after : List ℕ)

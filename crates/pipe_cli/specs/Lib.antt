@@ -1,4 +1,5 @@
 pub mod Acting
+pub mod Answer
 pub mod Event
 pub mod Form
 pub mod HostLog

@@ -6,6 +6,7 @@ mod acting;
 mod event;
 mod exact;
 mod host_log;
+mod input;
 mod log_text;
 mod read;
 mod receivers;

@@ -1,5 +1,5 @@
 // The log text of a trace. Each record is looked at once: what it logged goes to the logs of its host.
-ghost use Rattle.std.specs.Prelude.{◌≡◌, ◌++◌, ◌∷◌, [], List, ◌≤◌, length, reverse, IfOk, OnOk};
+ghost use Rattle.std.specs.Prelude.{◌≡◌, ◌++◌, ◌∷◌, [], List, ℕ, ◌≤◌, length, reverse, IfOk, OnOk};
 ghost use Rattle.pipe_model.specs.declared.record.Record.{Record};
 ghost use Rattle.pipe_cli.specs.HostLog.{host_logs};
 ghost use Rattle.pipe_cli.specs.LogText.{log_text};
@@ -35,8 +35,7 @@ fn print_all(alloc: Global, star: &Star, logs: &[HostLog]) -> Result<Vec<u8>, No
 
 // Adds what the records logged to the logs of their hosts.
 fn add_records(star: &Star, logs: &mut [HostLog], records: &[Record]) -> Result<(), NoMemory>
-    requires { logs.old ≡ host_logs star.now [] (length logs.old) }
-    ensures { OnOk result (logs.new ≡ host_logs star.now (reverse records.now) (length logs.old)) }
+    ensures { OnOk result ((hosts : ℕ) → logs.old ≡ host_logs star.now [] hosts → logs.new ≡ host_logs star.now (reverse records.now) hosts) }
 {
     'records: for record in records {
         add_record(star, logs, record)?;
@@ -56,7 +55,7 @@ fn empty_logs(alloc: Global, hosts: u16) -> Result<Vec<HostLog>, NoMemory>
 
 // Adds what a record logged to the logs of its host.
 fn add_record(star: &Star, logs: &mut [HostLog], record: &Record) -> Result<(), NoMemory>
-    ensures { OnOk result ((past : List Record) → logs.old ≡ host_logs star.now past (length logs.old) → logs.new ≡ host_logs star.now («record».now ∷ past) (length logs.old)) }
+    ensures { OnOk result ((past : List Record) (hosts : ℕ) → logs.old ≡ host_logs star.now past hosts → logs.new ≡ host_logs star.now («record».now ∷ past) hosts) }
 {
     let Some(node) = owner(star, record) else {
         return Ok(());
