@@ -4,7 +4,7 @@ ghost use Rattle.pipe_model.specs.Event.{IsOfGraph, IsBuilt};
 ghost use Rattle.pipe_cli.specs.Input.{IsRefusal};
 ghost use Rattle.pipe_cli.specs.LogText.{log_text};
 ghost use Rattle.pipe_cli.specs.Named.{Named};
-ghost use Rattle.pipe_cli.specs.Replay.{IsChannel, Replays};
+ghost use Rattle.pipe_cli.specs.Replay.{IsOrderedRun, Replays};
 
 use crate::input::{Input, read_input};
 use crate::log_text::print_logs;
@@ -50,7 +50,7 @@ pub fn replay(alloc: Global, bytes: &[u8]) -> Result<Replayed, Status>
 
 fn run_events(alloc: Global, star: &Star, events: Vec<Event>) -> Result<Trace, NoMemory>
     requires { All (λ e. IsOfGraph star.now.graph e × IsBuilt e) events.items }
-    ensures { IfOk result (λ trace. IsChannel star.now.graph events.items trace) }
+    ensures { IfOk result (λ trace. IsOrderedRun star.now.graph events.items trace) }
 {
     let mut world = World::star(alloc, star.hosts(), star.patience())?;
     let mut left = events;

@@ -1,7 +1,7 @@
 // The top call.
 ghost use Rattle.std.specs.Prelude.{◌≡◌, ◌↔◌, ◌⊎◌, ℕ, [], true, false, map, string_bytes};
 ghost use Rattle.pipe_base.specs.Outside.{Rose};
-ghost use Rattle.pipe_cli.specs.Answer.{IsOfInput, HasCause, DoesReplay, IsComplete};
+ghost use Rattle.pipe_cli.specs.Answer.{IsOfInput, IsCaused, IsWritten, DoesReplay, IsComplete};
 ghost use Rattle.pipe_cli.specs.Form.{IsReplayForm};
 ghost use Rattle.pipe_cli.specs.Status.{has_text};
 
@@ -28,7 +28,7 @@ pub fn run<S: Source, K: Sink>(alloc: Global, words: &Words, source: &mut S, sin
     ensures usage { (result.status ≡ Status.Usage) ↔ ¬ IsReplayForm (map string_bytes words.now) }
     ensures unread { result.status ≡ Status.Usage → source.new ≡ source.old }
     ensures input { IsOfInput (S.left source.old) (S.left source.new) result.status }
-    ensures cause { HasCause result.status (S.faults source.old) (S.faults source.new) (K.faults sink.old) (K.faults sink.new) }
+    ensures cause { IsCaused result.status (S.faults source.old) (S.faults source.new) (K.faults sink.old) (K.faults sink.new) }
     ensures replay { has_text result.status ≡ true → DoesReplay result.status (S.left source.old) (S.left source.new) (K.written sink.old) (K.written sink.new) result.trace }
     ensures silent { has_text result.status ≡ false → (sink.new ≡ sink.old) × (result.trace ≡ []) }
     ensures complete { ¬ Rose (S.faults source.old) (S.faults source.new) → ¬ Rose (K.faults sink.old) (K.faults sink.new) → IsComplete (map string_bytes words.now) (S.left source.old) result.status }
@@ -43,14 +43,26 @@ pub fn run<S: Source, K: Sink>(alloc: Global, words: &Words, source: &mut S, sin
     };
     match replay(alloc, &bytes) {
         Err(refusal) => stopped(alloc, refusal),
-        Ok(done) => {
-            let Replayed { trace, text } = done;
-            let status = match write_all(sink, &text) {
-                Ok(()) => Status::Ok,
-                Err(Failed) => Status::WriteFault,
-            };
-            Outcome { status, trace }
-        }
+        Ok(done) => write_out(sink, done),
+    }
+}
+
+fn write_out<K: Sink>(sink: &mut K, done: Replayed) -> Outcome
+    ensures trace { result.trace ≡ done.trace }
+    ensures written { IsWritten result.status (K.written sink.old) (K.written sink.new) done.text.items }
+    ensures failed { result.status ≡ Status.WriteFault → Rose (K.faults sink.old) (K.faults sink.new) }
+    ensures steady { result.status ≡ Status.Ok → K.faults sink.new ≡ K.faults sink.old }
+{
+    let Replayed { trace, text } = done;
+    match write_all(sink, &text) {
+        Ok(()) => Outcome {
+            status: Status::Ok,
+            trace,
+        },
+        Err(Failed) => Outcome {
+            status: Status::WriteFault,
+            trace,
+        },
     }
 }
 
