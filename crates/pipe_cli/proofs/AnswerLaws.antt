@@ -28,10 +28,10 @@ front_from : (rest : Option (List ℕ)) (bytes all : List ℕ) → WasRead (Some
 front_from None bytes all read = absurd read.consumed
 front_from (Some more) bytes all read =
     elim (cases_lt 67108864 (length bytes)) [
-      inl many ↦ sym (ap (take 67108865) read.consumed ∙ take_at bytes more 67108865 (let limit = read.limit in omega arith))
-    | inr few ↦
-        let nothing : more ≡ [] = read.end few in
-        sym (ap (take 67108865) (read.consumed ∙ ap (λ xs. bytes ++ xs) nothing ∙ append-nil bytes) ∙ take_all 67108865 bytes (omega arith))
+      | inl many ↦ sym (ap (take 67108865) read.consumed ∙ take_at bytes more 67108865 (let limit = read.limit in omega arith))
+      | inr few ↦
+          let nothing : more ≡ [] = read.end few in
+          sym (ap (take 67108865) (read.consumed ∙ ap (λ xs. bytes ++ xs) nothing ∙ append-nil bytes) ∙ take_all 67108865 bytes (omega arith))
     ]
 
 front : (left rest : Option (List ℕ)) (bytes all : List ℕ) → WasRead left rest bytes → left ≡ Some all → bytes ≡ take 67108865 all

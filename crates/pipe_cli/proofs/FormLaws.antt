@@ -12,7 +12,7 @@ pub form_is : (texts : List (String Global)) (word : String Global) (text : List
 form_is [] word text t one word_is text_is test = absurd (omega arith)
 form_is (x ∷ []) word text t one word_is text_is test =
     let same : t ≡ bytes_eq (string_bytes x) (codes "replay")
-        = test ∙ ap (λ (bytes : List ℕ). bytes_eq bytes (codes "replay")) (text_is ∙ ap string_bytes word_is) in
+    = test ∙ ap (λ (bytes : List ℕ). bytes_eq bytes (codes "replay")) (text_is ∙ ap string_bytes word_is) in
     let decides = bytes_eq-Decides (string_bytes x) (codes "replay") in
     (λ yes. ap (λ (bytes : List ℕ). bytes ∷ []) (decides.0 (sym same ∙ yes)), λ is. same ∙ decides.1 (first_word (string_bytes x) (codes "replay") is))
 form_is (x ∷ y ∷ texts) word text t one word_is text_is test = absurd (omega arith)

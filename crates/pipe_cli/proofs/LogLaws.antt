@@ -39,9 +39,9 @@ host_log-yes : (place : Named) (r : Record) (past : List Record) (host : ℕ) �
     → with_logged place.names r.step.logged (host_log place past host) ≡ host_log place (r ∷ past) host
 host_log-yes place r past host is =
     let more : (service : Service) → with_entries place.names (entries_of service r.step.logged) (printed place.names (log service (own place.graph host past)))
-          ≡ printed place.names (log service (own place.graph host (r ∷ past)))
-        = λ service. sym (printed-append place.names (log service (own place.graph host past)) (entries_of service r.step.logged))
-          ∙ ap (λ rs. printed place.names (log service rs)) (sym (own_yes place r past host is)) in
+    ≡ printed place.names (log service (own place.graph host (r ∷ past)))
+    = λ service. sym (printed-append place.names (log service (own place.graph host past)) (entries_of service r.step.logged))
+    ∙ ap (λ rs. printed place.names (log service rs)) (sym (own_yes place r past host is)) in
     λ i. record { best = more BestEffort i; reliable = more Reliable i }
 
 -- the logs of a host after a record of another node
@@ -49,8 +49,8 @@ host_log-no : (place : Named) (r : Record) (past : List Record) (host : ℕ) →
     → host_log place past host ≡ host_log place (r ∷ past) host
 host_log-no place r past host is =
     let same : (service : Service) → printed place.names (log service (own place.graph host past))
-          ≡ printed place.names (log service (own place.graph host (r ∷ past)))
-        = λ service. ap (λ rs. printed place.names (log service rs)) (sym (own_no place r past host is)) in
+    ≡ printed place.names (log service (own place.graph host (r ∷ past)))
+    = λ service. ap (λ rs. printed place.names (log service rs)) (sym (own_no place r past host is)) in
     λ i. record { best = same BestEffort i; reliable = same Reliable i }
 
 other_node : (node : NodeId) (k : ℕ) → k ≢ node.0 → is_node k (Some node) ≡ false
@@ -67,13 +67,13 @@ logs_set place r past logs n i node d now owner at inside added so_far =
     let here : 0 + i ≡ i = omega arith in
     let within : i < n = omega (arith, ap length so_far, length-host_logs place past n) in
     let old : get_or logs i d ≡ host_log place past i
-        = ap (λ ls. get_or ls i d) so_far ∙ get_or-map_range (host_log place past) 0 n i d within ∙ ap (host_log place past) here in
+    = ap (λ ls. get_or ls i d) so_far ∙ get_or-map_range (host_log place past) 0 n i d within ∙ ap (host_log place past) here in
     let own_one : is_own place.graph i r ≡ true = owner i ∙ eq-eqb node.0 i (sym at) in
     let new : now ≡ host_log place (r ∷ past) (0 + i)
-        = added ∙ ap (with_logged place.names r.step.logged) old ∙ host_log-yes place r past i own_one ∙ ap (host_log place (r ∷ past)) (sym here) in
+    = added ∙ ap (with_logged place.names r.step.logged) old ∙ host_log-yes place r past i own_one ∙ ap (host_log place (r ∷ past)) (sym here) in
     ap (λ ls. set ls i now) so_far
     ∙ set-map_range (host_log place past) (host_log place (r ∷ past)) 0 n i now within new
-      (λ k other. host_log-no place r past k (owner k ∙ other_node node k (omega arith)))
+    (λ k other. host_log-no place r past k (owner k ∙ other_node node k (omega arith)))
 
 -- a record of a node that is no host
 pub logs_same : (place : Named) (r : Record) (past : List Record) (logs : List HostLog) (n : ℕ) (node : NodeId)
@@ -102,18 +102,18 @@ text_more place past logs i log name before after within is here name_is so_far 
     let count : length logs ≡ place.graph.hosts = ap length is ∙ length-host_logs place past place.graph.hosts in
     let zero_plus : 0 + i ≡ i = omega arith in
     let log_is : log ≡ host_log place past i
-        = here ∙ ap (λ ls. get_or ls i log) is
-          ∙ get_or-map_range (host_log place past) 0 place.graph.hosts i log (omega arith) ∙ ap (host_log place past) zero_plus in
+    = here ∙ ap (λ ls. get_or ls i log) is
+    ∙ get_or-map_range (host_log place past) 0 place.graph.hosts i log (omega arith) ∙ ap (host_log place past) zero_plus in
     added ∙ (λ j. so_far j ++ both_logs (name_is j) (log_is j))
     ∙ sym (ap (flat_map (host_text place past)) (range-more i)
-      ∙ flat_map-append (host_text place past) (range_with_len 0 i) (i ∷ [])
-      ∙ ap (λ text. flat_map (host_text place past) (range_with_len 0 i) ++ text) (append-nil (host_text place past i)))
+    ∙ flat_map-append (host_text place past) (range_with_len 0 i) (i ∷ [])
+    ∙ ap (λ text. flat_map (host_text place past) (range_with_len 0 i) ++ text) (append-nil (host_text place past i)))
 
 pub text_all : (place : Named) (past : List Record) (logs : List HostLog) (i : ℕ) (text : List ℕ) → i ≡ length logs
     → logs ≡ host_logs place past place.graph.hosts → text ≡ flat_map (host_text place past) (range_with_len 0 i) → text ≡ log_text place past
 text_all place past logs i text end is so_far =
     so_far ∙ ap (λ (n : ℕ). flat_map (host_text place past) (range_with_len 0 n))
-      (end ∙ ap length is ∙ length-host_logs place past place.graph.hosts)
+    (end ∙ ap length is ∙ length-host_logs place past place.graph.hosts)
 
 -- one record more
 pub records_more : (place : Named) (records : List Record) (i n : ℕ) (r : Record) (logs now : List HostLog) → i < length records
@@ -121,5 +121,5 @@ pub records_more : (place : Named) (records : List Record) (i n : ℕ) (r : Reco
     → logs ≡ host_logs place (reverse (take i records)) n → now ≡ host_logs place (reverse (take (i + 1) records)) n
 records_more place records i n r logs now within here step so_far =
     let newest : reverse (take (i + 1) records) ≡ r ∷ reverse (take i records)
-        = ap reverse (take_more records i r within ∙ ap (λ x. take i records ++ x ∷ []) (sym here)) ∙ reverse-append (take i records) (r ∷ []) in
+    = ap reverse (take_more records i r within ∙ ap (λ x. take i records ++ x ∷ []) (sym here)) ∙ reverse-append (take i records) (r ∷ []) in
     step (reverse (take i records)) so_far ∙ ap (λ past. host_logs place past n) (sym newest)

@@ -39,5 +39,5 @@ pub take-more : (at n : ℕ) (xs : List ℕ) → take (at + n) xs ≡ take at xs
 take-more at n xs =
     let rest : take (length xs - at) (drop at xs) ≡ drop at xs = take_rest xs at in
     let joined : take (at + n) xs ≡ take at xs ++ take n (drop at xs)
-        = same_lists _ _ (search (rules, places)) (λ k d h. grind (arith, places)) in
+    = same_lists _ _ (search (rules, places)) (λ k d h. grind (arith, places)) in
     joined ∙ ap (λ ys. take at xs ++ take n ys) (sym rest)

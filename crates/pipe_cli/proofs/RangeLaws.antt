@@ -26,7 +26,7 @@ map_range-same f g a zero same = refl
 map_range-same f g a (suc n) same =
     let first : f a ≡ g a = same a (omega arith) (omega arith) in
     let rest : map f (range_with_len (a + 1) n) ≡ map g (range_with_len (a + 1) n)
-        = map_range-same f g (a + 1) n (λ k low high. same k (omega arith) (omega arith)) in
+    = map_range-same f g (a + 1) n (λ k low high. same k (omega arith) (omega arith)) in
     λ i. first i ∷ rest i
 
 -- functions that agree but at one place
@@ -36,14 +36,14 @@ set-map_range f g a zero i y within is same = absurd (omega arith)
 set-map_range f g a (suc n) zero y within is same =
     let e : a + 0 ≡ a = omega arith in
     let rest : map f (range_with_len (a + 1) n) ≡ map g (range_with_len (a + 1) n)
-        = map_range-same f g (a + 1) n (λ k low high. same k (omega arith)) in
+    = map_range-same f g (a + 1) n (λ k low high. same k (omega arith)) in
     let first : y ≡ g a = is ∙ ap g e in
     λ i. first i ∷ rest i
 set-map_range f g a (suc n) (suc j) y within is same =
     let e : a + suc j ≡ a + 1 + j = omega arith in
     let first : f a ≡ g a = same a (omega arith) in
     let rest : set (map f (range_with_len (a + 1) n)) j y ≡ map g (range_with_len (a + 1) n)
-        = set-map_range f g (a + 1) n j y (omega arith) (is ∙ ap g e) (λ k other. same k (omega arith)) in
+    = set-map_range f g (a + 1) n j y (omega arith) (is ∙ ap g e) (λ k other. same k (omega arith)) in
     λ i. first i ∷ rest i
 
 pub get_or-map_range : {X : Type 0} (f : ℕ → X) (a n i : ℕ) (d : X) → i < n → get_or (map f (range_with_len a n)) i d ≡ f (a + i)

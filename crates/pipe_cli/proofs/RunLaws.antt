@@ -16,7 +16,7 @@ pub known_reverse : (graph : Graph) (events left : List Event) → left ≡ reve
 known_reverse graph events left is known =
     subst (λ xs. All (λ e. IsOfGraph graph e × IsBuilt e) xs) (sym is)
     (λ k d within. let inside : k < length events = omega (arith, length-reverse events) in
-      subst (IsKnown graph) (sym (get_or-reverse events k d inside)) (known (length events - 1 - k) d (omega arith)))
+    subst (IsKnown graph) (sym (get_or-reverse events k d inside)) (known (length events - 1 - k) d (omega arith)))
 
 -- the last event, and those before it
 pub known_last : (graph : Graph) (old new : List Event) (event : Event) → old ≡ new ++ event ∷ []

@@ -54,4 +54,4 @@ pub schedule_fault : (place : Named) (before : List Event) (at : ℕ) (text line
 schedule_fault place before at text line rest all split is none so_far =
     sym so_far
     ∙ ap (after_events before) (ap (schedule_of place at) split ∙ take_line place at line (lines rest) is
-      ∙ ap (λ e. event_onto e at (schedule_of place (at + 1) (lines rest))) none)
+    ∙ ap (λ e. event_onto e at (schedule_of place (at + 1) (lines rest))) none)

@@ -31,7 +31,7 @@ pub position-names : (word : List ℕ) (names : List (String Global))
 position-names word names =
     ap (λ (n : ℕ). cond (nat_lt n (length names)) (Some n) None) (sym (place-map string_bytes (λ name. bytes_eq name word) names))
     ∙ ap (λ (n : ℕ). cond (nat_lt (position_or_len (λ name. bytes_eq name word) (map string_bytes names)) n)
-        (Some (position_or_len (λ name. bytes_eq name word) (map string_bytes names))) None) (sym (length-map names string_bytes))
+    (Some (position_or_len (λ name. bytes_eq name word) (map string_bytes names))) None) (sym (length-map names string_bytes))
 
 -- a place among the texts is the node
 pub node_is : (place : Named) (names : List (String Global)) (word : List ℕ) (found : Option ℕ)

@@ -9,7 +9,11 @@ use pipe_text::read_body;
 use std::alloc::Global;
 
 /// From 1 to 16 different receivers. None where a word is no receiver, or these are too many, or one stands twice.
-pub fn read_receivers(alloc: Global, star: &Star, words: &[&[u8]]) -> Result<Option<DestList>, NoMemory>
+pub fn read_receivers(
+    alloc: Global,
+    star: &Star,
+    words: &[&[u8]],
+) -> Result<Option<DestList>, NoMemory>
     ensures value { IfOk result (λ dests. dests ≡ receivers_line star.now (map (λ word. word.now) words.now)) }
     ensures known { IfOk result (λ dests. IfSome dests (AreReceivers star.now.graph)) }
 {

@@ -22,7 +22,12 @@ pub enum ScheduleFault {
 }
 
 /// The events of a schedule whose first line has this number.
-pub fn read_schedule(alloc: Global, star: &Star, text: &[u8], first: u32) -> Result<Vec<Event>, ScheduleFault>
+pub fn read_schedule(
+    alloc: Global,
+    star: &Star,
+    text: &[u8],
+    first: u32,
+) -> Result<Vec<Event>, ScheduleFault>
     requires { length text.now + first ≤ 4294967295 }
     ensures events { IfOk result (λ events. schedule_of star.now first (lines text.now) ≡ Ok events.items) }
     ensures known { IfOk result (λ events. All (λ e. IsOfGraph star.now.graph e × IsBuilt e) events.items) }
@@ -49,7 +54,12 @@ pub fn read_schedule(alloc: Global, star: &Star, text: &[u8], first: u32) -> Res
 }
 
 // The event of a line with this number. None where the line is skipped.
-fn read_line(alloc: Global, star: &Star, text: &[u8], line: u32) -> Result<Option<Event>, ScheduleFault>
+fn read_line(
+    alloc: Global,
+    star: &Star,
+    text: &[u8],
+    line: u32,
+) -> Result<Option<Event>, ScheduleFault>
     ensures event { IfOk result (λ event. IfSome event (λ e. (is_skipped (words_of text.now) ≡ false) × (line_event star.now (words_of text.now) ≡ Some e))) }
     ensures known { IfOk result (λ event. IfSome event (λ e. IsOfGraph star.now.graph e × IsBuilt e)) }
     ensures skipped { IfOk result (λ event. IfNone event (is_skipped (words_of text.now) ≡ true)) }

@@ -28,8 +28,8 @@ impl Model for Star {
     ghost Value = { Named };
 
     ghost view = { λ s. record {
-        graph = record { hosts = s.hosts; nodes = s.hosts + 2; links = s.links.items; patience = s.patience.0 };
-        names = map string_bytes s.names.items
+      graph = record { hosts = s.hosts; nodes = s.hosts + 2; links = s.links.items; patience = s.patience.0 };
+      names = map string_bytes s.names.items;
     } };
 
     ghost invariant = { λ s. IsStar s.hosts s.patience.0 s.links.items (map string_bytes s.names.items) };

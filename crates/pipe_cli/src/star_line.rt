@@ -32,10 +32,7 @@ fn star_size(words: &[&[u8]]) -> Option<(u16, u64)>
     }
     match words {
         [hosts] => size_from(read_number(hosts, 64), Some(PATIENCE)),
-        [hosts, patience] => size_from(
-            read_number(hosts, 64),
-            read_number(patience, LAST_STAMP),
-        ),
+        [hosts, patience] => size_from(read_number(hosts, 64), read_number(patience, LAST_STAMP)),
         _ => None,
     }
 }
@@ -48,7 +45,10 @@ fn size_from(hosts: Option<u64>, patience: Option<u64>) -> Option<(u16, u64)>
     ensures patience { IfSome result (λ p. (1 ≤ p.1) × (p.1 ≤ 281474976710654)) }
 {
     match (hosts, patience) {
-        (Some(hosts), Some(patience)) if hosts > 0 && patience > 0 => Some((hosts as u16, patience)),
+        (Some(hosts), Some(patience)) if hosts > 0 && patience > 0 => Some((
+            hosts as u16,
+            patience,
+        )),
         _ => None,
     }
 }

@@ -46,7 +46,8 @@ pub fn exit_number(status: &Status) -> u8
     }
 }
 
-const USAGE: &str = "usage: replay [--trace] | judge | gen SEED HOSTS EVENTS [--run] | live TURNS [--step N]";
+const USAGE: &str =
+    "usage: replay [--trace] | judge | gen SEED HOSTS EVENTS [--run] | live TURNS [--step N]";
 
 impl fmt::Display for Status {
     fn fmt<W: fmt::Write>(&self, f: &mut fmt::Formatter<W>) -> fmt::Result {

@@ -24,7 +24,12 @@ pub struct Outcome {
 /// Does all that the program does. The words come first: where they are no form, nothing is read. Then the input is read,
 /// to its end or one byte beyond the limit; its first fault is the refusal. The run has ended and its text is made before
 /// the first byte is written.
-pub fn run<S: Source, K: Sink>(alloc: Global, words: &Words, source: &mut S, sink: &mut K) -> Outcome
+pub fn run<S: Source, K: Sink>(
+    alloc: Global,
+    words: &Words,
+    source: &mut S,
+    sink: &mut K,
+) -> Outcome
     ensures usage { (result.status ≡ Status.Usage) ↔ ¬ IsReplayForm (map string_bytes words.now) }
     ensures unread { result.status ≡ Status.Usage → source.new ≡ source.old }
     ensures input { IsOfInput (S.left source.old) (S.left source.new) result.status }

@@ -6,4 +6,4 @@ use Rattle.pipe_cli.proofs.log_text.empty_logs.Goals as goal
 pub hosts-preserved : goal.hosts-preserved
 hosts-preserved c =
     λ place. c.in_ok-push.ensures.items ∙ (λ i. c.hosts.invariant place i ++ c.new.ensures i ∷ [])
-      ∙ sym (map_range-more (host_log place []) c.hosts.counter)
+    ∙ sym (map_range-more (host_log place []) c.hosts.counter)

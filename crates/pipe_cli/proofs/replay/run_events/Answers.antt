@@ -9,16 +9,16 @@ use Rattle.pipe_cli.proofs.replay.run_events.Goals as goal
 pub running-init : goal.running-init
 running-init c = record {
   graph = ap (λ w. w.graph) c.in_ok-world.ensures
-    ∙ (λ i. star (c.hosts.ensures.hosts i) (c.patience.ensures.patience i)) ∙ sym c.hosts.ensures.star;
+      ∙ (λ i. star (c.hosts.ensures.hosts i) (c.patience.ensures.patience i)) ∙ sym c.hosts.ensures.star;
   events = ap (λ w. map event_of w.trace ++ reverse c.reverse.new.self.items) c.in_ok-world.ensures
-    ∙ ap reverse c.reverse.ensures.items ∙ reverse-reverse c.args.events.items;
+      ∙ ap reverse c.reverse.ensures.items ∙ reverse-reverse c.args.events.items;
   known = known_reverse c.args.star.now.graph c.args.events.items c.reverse.new.self.items c.reverse.ensures.items c.requires;
 }
 
 pub step-requires-clause-event : goal.step-requires-clause-event
 step-requires-clause-event c =
     rw c.running.invariant.graph (known_last c.args.star.now.graph c.running.left.items c.pop.new.self.items c.in-Some.event c.in-Some.ensures.items
-      c.running.invariant.known).0
+    c.running.invariant.known).0
 
 pub step-requires-clause-built : goal.step-requires-clause-built
 step-requires-clause-built c =
@@ -30,7 +30,7 @@ running-preserved c =
     record {
       graph = ok.graph_is ∙ c.running.invariant.graph;
       events = happened_more c.running.world.trace c.step.new.self.trace ok.adds.added c.in-Some.event c.running.left.items c.pop.new.self.items
-        c.args.events.items ok.adds.appended ok.adds.event_is c.in-Some.ensures.items c.running.invariant.events;
+          c.args.events.items ok.adds.appended ok.adds.event_is c.in-Some.ensures.items c.running.invariant.events;
       known = known_rest c.args.star.now.graph c.running.left.items c.pop.new.self.items c.in-Some.event c.in-Some.ensures.items
-        c.running.invariant.known;
+          c.running.invariant.known;
     }
