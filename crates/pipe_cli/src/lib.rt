@@ -22,3 +22,6 @@ mod write;
 pub use status::{PlanFault, Status, exit_number};
 pub use top::{Outcome, run};
 pub use words::Words;
+
+#[cfg(test)]
+mod tests;
