@@ -3,3 +3,8 @@
 
 mod collect;
 mod print;
+
+pub use print::{Text, print_logs};
+
+#[cfg(test)]
+mod tests;

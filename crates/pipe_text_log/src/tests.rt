@@ -1,0 +1,64 @@
+// The text of a small trace, as the format has it.
+
+use crate::print_logs;
+use pipe_base::{Body, Entry, HostId, Key, Link, LinkId, List, NodeId, Service, Step, Ts};
+use pipe_model::{Event, Record, Took};
+use pipe_topo::Names;
+use std::alloc::Global;
+use std::test::Fail;
+
+const LINKS: [Link; 2] = [
+    Link {
+        tail: NodeId(2),
+        head: NodeId(0),
+    },
+    Link {
+        tail: NodeId(2),
+        head: NodeId(1),
+    },
+];
+
+// A take of a link that logs this message of host 0.
+fn delivery(
+    alloc: Global,
+    link: u16,
+    service: Service,
+    ts: u64,
+    body: &[u8],
+) -> Result<Record, Fail> {
+    let mut step = Step::new(alloc);
+    let key = Key {
+        ts: Ts(ts),
+        src: HostId(0),
+    };
+    let body = Body::new(alloc, body)?;
+    step.logged.push((service, Entry { key, body }))?;
+    Ok(Record {
+        event: Event::Take {
+            link: LinkId(link),
+            place: 0,
+            keep: false,
+        },
+        took: Took::Nothing,
+        step,
+    })
+}
+
+#[test]
+fn logs_are_printed_host_by_host(rt: HostRuntime) -> Result<(), Fail> {
+    let alloc = rt.alloc();
+    let mut names = Names::new(alloc);
+    for name in ["left", "right"] {
+        assert!(rt; names.len() < 9);
+        assert!(rt; names.add(name)?);
+    }
+    let mut trace = List::new(alloc);
+    trace.push(delivery(alloc, 1, Service::BestEffort, 10, b"hi")?)?;
+    trace.push(delivery(alloc, 0, Service::Reliable, 12, b"")?)?;
+    trace.push(delivery(alloc, 1, Service::BestEffort, 11, b"\n")?)?;
+    let text = print_logs(alloc, &names, 2, &LINKS, &trace)?;
+    let wanted =
+        b"log left best 0\nlog left reliable 1\n12 left -\nlog right best 2\n10 left 6869\n11 left 0a\nlog right reliable 0\n";
+    assert_eq!(rt; text.as_slice(), wanted.as_slice());
+    Ok(())
+}
