@@ -56,6 +56,13 @@ impl Routes {
         Ok(())
     }
 
+    /// The node that these are the routes of.
+    pub fn node(&self) -> NodeId
+        ensures { result.0 ≡ self.now.node }
+    {
+        self.node
+    }
+
     pub fn try_clone(&self) -> Result<Routes, NoMemory>
         ensures { IfOk result (λ copy. copy ≡ self.now) }
     {
