@@ -1,4 +1,5 @@
 pub mod BelowLaws
+pub mod Listed
 pub mod PathLaws
 pub mod ReachLaws
 pub mod Rounds

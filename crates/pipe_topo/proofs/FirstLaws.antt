@@ -35,3 +35,14 @@ first_none p (suc n) k none lt = pick (λ before below. first_none p n k before 
         ]
     pick earlier None true none_before is h = cc
     pick earlier (Some m) here some_before is h = cc
+
+-- the first number that passes passes
+pub first_passes : (p : ℕ → Bool) (n k : ℕ) → first_below p n ≡ Some k → p k ≡ true
+first_passes p zero k is = cc
+first_passes p (suc n) k is = pick (λ before. first_passes p n k before) (first_below p n) (p n) refl refl is
+  where
+    pick : (first_below p n ≡ Some k → p k ≡ true) → (before : Option ℕ) (here : Bool)
+        → first_below p n ≡ before → p n ≡ here → first_of before (if here then Some n else None) ≡ Some k → p k ≡ true
+    pick earlier (Some m) here is_before passes h = earlier (is_before ∙ h)
+    pick earlier None true is_before passes h = let same : n ≡ k = cc in subst (λ (m : ℕ). p m ≡ true) same passes
+    pick earlier None false is_before passes h = cc

@@ -11,6 +11,7 @@ use Rattle.pipe_base.specs.Graph.{Graph, IsGraph, ins_of, outs_of, tail_of, head
 use Rattle.pipe_topo.specs.declared.plan.CableEnd.{CableEnd}
 use Rattle.pipe_topo.specs.declared.plan.Plan.{Plan}
 use Rattle.pipe_topo.specs.Plan.{plan_links, IsPlan}
+use Rattle.pipe_paths.proofs.Listed.{listed_below}
 use Rattle.pipe_topo.proofs.LinkLaws.{plan_is_network}
 use Rattle.pipe_topo.specs.Tables.{IsListed, IsTable, HasTables, IsNetwork, head_at, tail_at}
 
@@ -40,13 +41,6 @@ listed_more end nodes count node table listed lt is = record {
       ];
   }
 
--- the numbers below a bound, as links, are below it
-pub numbered_below : (n : ℕ) → All (λ (l : LinkId). l.0 < n) (map link_id (range_with_len 0 n))
-numbered_below n =
-    All-map (λ (l : LinkId). l.0 < n) link_id (range_with_len 0 n)
-    (All-from_get_or (λ (k : ℕ). k < n) (range_with_len 0 n) 0
-        (λ i lt. let size = length-range_with_len 0 n in let at = get_or-range_with_len 0 n i 0 (omega arith) in omega arith))
-
 pub listed_is_table : (g : Graph) (end : ℕ → ℕ) (table : List (List LinkId)) → IsListed end g.nodes (length g.links) table
     → IsTable g (λ n. filter (λ l. end l.0 == n) (map link_id (range_with_len 0 (length g.links)))) table
 listed_is_table g end table listed = record {
@@ -54,7 +48,7 @@ listed_is_table g end table listed = record {
     lists = listed.lists;
     known = λ n lt.
       subst (All (λ (l : LinkId). l.0 < length g.links)) (sym (listed.lists n lt))
-      (All-filter (λ (l : LinkId). end l.0 == n) (λ (l : LinkId). l.0 < length g.links) (map link_id (range_with_len 0 (length g.links))) (numbered_below (length g.links)));
+      (listed_below (λ (l : LinkId). end l.0 == n) (length g.links));
   }
 
 -- the links and tables that are made of a plan: of these levels and links, with the links seen once more as a slice

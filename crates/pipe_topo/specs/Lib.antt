@@ -3,3 +3,4 @@ pub mod First
 pub mod Plan
 pub mod Sets
 pub mod Tables
+pub mod Walk

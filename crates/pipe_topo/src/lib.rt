@@ -2,12 +2,16 @@
 //! and sets of links and hosts.
 #![tactic(auto)]
 
+mod apart;
+mod build;
 mod fault;
 mod links;
 mod plan;
+mod reach;
 mod shape;
 mod tables;
 mod topology;
+mod walk;
 
 pub use fault::{TopoFault, What};
 pub use links::LinkSet;

@@ -34,6 +34,7 @@ impl Topology {
     pub fn hosts(&self) -> u16
         ensures value { result ≡ self.now.hosts }
         ensures few { result ≤ 64 }
+        ensures are_nodes { result ≤ self.now.nodes }
     {
         self.hosts
     }

@@ -1,0 +1,77 @@
+-- What the first fault says: the first pair that is apart; and a plan without a fault joins all hosts.
+use Rattle.std.proofs.Common.{◌≡◌, ℕ, ◌+◌, ◌<◌, ◌≤◌, nat_le, ◌&&◌, not, Bool, true, false, List, [], ◌∷◌, length, replicate, get_or, Option, None, Some, is_some, option_map, inl, inr, refl, sym, ap, subst, ◌∙◌, true≢false, arith}
+use Rattle.std.proofs.lemmas.Bool.{le-leb}
+use Rattle.std.proofs.lemmas.Bool.Decides.{leb_tells}
+use Rattle.std.proofs.lemmas.List.{get_or-replicate}
+use Rattle.pipe_base.specs.Graph.{Graph, IsGraph}
+use Rattle.pipe_base.specs.Path.{every_link}
+use Rattle.pipe_base.specs.Reach.{reaches, JoinsAllHosts}
+use Rattle.pipe_paths.proofs.ReachLaws.{AreAlike, reaches_alike}
+use Rattle.pipe_paths.proofs.Turn.{reach_turns}
+use Rattle.pipe_topo.specs.Fault.{shape_fault, is_apart, apart_from, apart_at, apart_fault, fault_of}
+use Rattle.pipe_topo.specs.First.{first_of, first_below}
+use Rattle.pipe_topo.specs.Plan.{graph_of, IsPlan}
+use Rattle.pipe_topo.specs.Sets.{has}
+use Rattle.pipe_topo.specs.declared.fault.TopoFault.{TopoFault}
+use Rattle.pipe_topo.specs.declared.fault.TopoFault.TheVariants.{Apart}
+use Rattle.pipe_topo.specs.declared.plan.Plan.{Plan}
+use Rattle.pipe_topo.proofs.FirstLaws.{first_at, first_none, first_passes}
+use Rattle.pipe_topo.proofs.LinkLaws.{plan_is_graph}
+use Rattle.pipe_topo.proofs.MirrorLaws.{plan_mirrored}
+
+all_alike : (g : Graph) (all : List Bool) → all ≡ replicate (length g.links) true → AreAlike g (has all) every_link
+all_alike g all are l lt = ap (λ (s : List Bool). has s l) are ∙ get_or-replicate (length g.links) l true false lt
+
+-- the test of two hosts with the first not after the second
+pub apart_is : (g : Graph) (all : List Bool) (a b : ℕ) (reached : Bool) → all ≡ replicate (length g.links) true → a ≤ b → reached ≡ reaches g (has all) a b → not reached ≡ is_apart g a b
+apart_is g all a b reached are le is =
+    ap not (is ∙ reaches_alike g (has all) every_link a b (all_alike g all are))
+    ∙ ap (λ (t : Bool). t && not (reaches g every_link a b)) (sym (le-leb a b le))
+
+-- the first host that has another apart from it, and the first such
+pub apart_found : (g : Graph) (a b : ℕ) → a < g.hosts → first_below (λ (k : ℕ). is_some (apart_from g k)) a ≡ None → apart_from g a ≡ Some b → apart_fault g ≡ Some (Apart a b)
+apart_found g a b lt none found =
+    ap (apart_at g) (first_at (λ (k : ℕ). is_some (apart_from g k)) g.hosts a lt none (ap is_some found))
+    ∙ ap (option_map (λ (k : ℕ). Apart a k)) found
+
+-- no fault of this kind: no host has another apart from it
+none_apart : (g : Graph) → apart_fault g ≡ None → (a b : ℕ) → a < g.hosts → b < g.hosts → is_apart g a b ≡ false
+none_apart g none a b a_lt b_lt = first_none (is_apart g a) g.hosts b (nothing (apart_from g a) (first_none (λ (k : ℕ). is_some (apart_from g k)) g.hosts a no_host a_lt)) b_lt
+  where
+    nothing : (o : Option ℕ) → is_some o ≡ false → o ≡ None
+    nothing None h = refl
+    nothing (Some k) h = absurd (true≢false h)
+    no_host : first_below (λ (k : ℕ). is_some (apart_from g k)) g.hosts ≡ None
+    no_host = pick (first_below (λ (k : ℕ). is_some (apart_from g k)) g.hosts) refl
+      where
+        pick : (o : Option ℕ) → first_below (λ (k : ℕ). is_some (apart_from g k)) g.hosts ≡ o → first_below (λ (k : ℕ). is_some (apart_from g k)) g.hosts ≡ None
+        pick None is = is
+        pick (Some k) is = absurd (some_fault (apart_from g k) (first_passes (λ (j : ℕ). is_some (apart_from g j)) g.hosts k is) (sym (ap (apart_at g) is) ∙ none))
+          where
+            some_fault : (o : Option ℕ) → is_some o ≡ true → option_map (λ (b : ℕ). Apart k b) o ≡ None → ⊥
+            some_fault None some h = true≢false (sym some)
+            some_fault (Some j) some h = cc
+
+not_apart : (g : Graph) (a b : ℕ) → is_apart g a b ≡ false → a ≤ b → reaches g every_link a b ≡ true
+not_apart g a b isnt le = pick (reaches g every_link a b) refl
+  where
+    pick : (t : Bool) → reaches g every_link a b ≡ t → reaches g every_link a b ≡ true
+    pick true is = is
+    pick false is = absurd (true≢false (sym (λ i. (le-leb a b le i) && not (is i)) ∙ isnt))
+
+-- a plan without this fault joins all hosts
+pub no_apart_joins : (plan : Plan) → IsPlan plan → apart_fault (graph_of plan) ≡ None → JoinsAllHosts (graph_of plan)
+no_apart_joins plan is none a b a_lt b_lt =
+    elim (leb_tells a b) [
+      inl le ↦ not_apart (graph_of plan) a b (none_apart (graph_of plan) none a b a_lt b_lt) le.1
+    | inr gt ↦
+        reach_turns (graph_of plan) (plan_is_graph plan is) (plan_mirrored plan is) b a b_lt a_lt
+        (not_apart (graph_of plan) b a (none_apart (graph_of plan) none b a b_lt a_lt) (omega (arith, gt.1)))
+    ]
+
+no_apart_fault : (shape apart : Option TopoFault) → first_of shape apart ≡ None → apart ≡ None
+no_apart_fault None apart h = h
+no_apart_fault (Some fault) apart h = cc
+
+pub no_fault_joins : (plan : Plan) → IsPlan plan → fault_of plan ≡ None → JoinsAllHosts (graph_of plan)
+no_fault_joins plan is none = no_apart_joins plan is (no_apart_fault (shape_fault plan.hosts plan.levels plan.cables) (apart_fault (graph_of plan)) none)

@@ -1,0 +1,77 @@
+// Which node reaches which, and which hosts feed a link.
+ghost use Rattle.std.specs.Prelude.{◌≡◌, ◌<◌, length, IfOk};
+ghost use Rattle.std.specs.List.{list_any};
+ghost use Rattle.pipe_base.specs.Graph.{outs_of};
+ghost use Rattle.pipe_base.specs.Reach.{feeds, reaches};
+ghost use Rattle.pipe_topo.specs.Sets.{has};
+ghost use Rattle.pipe_topo.specs.Walk.{leads_near};
+
+use crate::walk::{FAR, distances, entry};
+use crate::{LinkSet, Topology};
+use pipe_base::{HostId, LinkId, NoMemory, NodeId};
+use std::alloc::Global;
+
+impl Topology {
+    /// A path of links of the set leads from one node to the other.
+    pub fn reaches(
+        &self,
+        alloc: Global,
+        from: NodeId,
+        to: NodeId,
+        by: &LinkSet,
+    ) -> Result<bool, NoMemory>
+        requires from { from.0 < self.now.nodes }
+        requires to { to.0 < self.now.nodes }
+        requires links { length by.now ≡ length self.now.links }
+        ensures { IfOk result (λ yes. yes ≡ reaches self.now (has by.now) from.0 to.0) }
+    {
+        let away = distances(alloc, self, to, by)?;
+        Ok(goes_on(self, by, from, &away))
+    }
+
+    /// The host is the link's tail, or reaches the tail by the set, and that is a half.
+    pub fn feeds(
+        &self,
+        alloc: Global,
+        host: HostId,
+        link: LinkId,
+        by: &LinkSet,
+    ) -> Result<bool, NoMemory>
+        requires host { host.0 < self.now.hosts }
+        requires link { link.0 < length self.now.links }
+        requires links { length by.now ≡ length self.now.links }
+        ensures { IfOk result (λ yes. yes ≡ feeds self.now (has by.now) host.0 link.0) }
+    {
+        let host = NodeId(host.0);
+        let tail = self.tail(link);
+        if host == tail {
+            return Ok(true);
+        }
+        if !self.is_half(tail) {
+            return Ok(false);
+        }
+        self.reaches(alloc, host, tail, by)
+    }
+}
+
+// A link of the set leads from the node to one that is not far.
+fn goes_on(topology: &Topology, by: &LinkSet, from: NodeId, away: &[u16]) -> bool
+    requires from { from.0 < topology.now.nodes }
+    requires links { length by.now ≡ length topology.now.links }
+    requires size { length away.now ≡ topology.now.nodes }
+    ensures { result ≡ list_any (λ l. leads_near topology.now (has by.now) away.now l.0) (outs_of topology.now from.0) }
+{
+    topology
+        .outs(from)
+        .iter()
+        .any(|link| leads_near(topology, by, *link, away))
+}
+
+fn leads_near(topology: &Topology, by: &LinkSet, link: LinkId, away: &[u16]) -> bool
+    requires link { link.0 < length topology.now.links }
+    requires links { length by.now ≡ length topology.now.links }
+    requires size { length away.now ≡ topology.now.nodes }
+    ensures { result ≡ leads_near topology.now (has by.now) away.now link.0 }
+{
+    by.has(link) && entry(away, topology.head(link)) < FAR
+}

@@ -1,0 +1,86 @@
+// A walk backwards from a node, breadth first: how many links lead on to it from each node.
+ghost use Rattle.std.specs.Prelude.{◌≡◌, ℕ, ◌+◌, ◌<◌, ◌≤◌, ◌∷◌, length, min, sum, IfOk, OnOk};
+ghost use Rattle.pipe_base.specs.Graph.{IsGraph};
+ghost use Rattle.pipe_topo.specs.Sets.{has};
+ghost use Rattle.pipe_topo.specs.Walk.{IsDistances, IsWalk, LooksAlong, away_of, far};
+
+use crate::{LinkSet, Topology};
+use pipe_base::{LinkId, NoMemory, NodeId};
+use std::alloc::Global;
+use std::collections::VecDeque;
+
+/// The distance of a node from which no links lead on.
+pub const FAR: u16 = u16::MAX;
+
+/// For each node how many links of the set lead on from it to `to`, at least, or `FAR`: each of them begins at a half.
+pub fn distances(
+    alloc: Global,
+    topology: &Topology,
+    to: NodeId,
+    by: &LinkSet,
+) -> Result<Vec<u16>, NoMemory>
+    requires node { to.0 < topology.now.nodes }
+    requires links { length by.now ≡ length topology.now.links }
+    ensures right { IfOk result (λ away. IsDistances topology.now (has by.now) to.0 away.items) }
+    ensures joined { IsGraph topology.now }
+    ensures few { topology.now.nodes ≤ 192 }
+{
+    let mut away = vec![in alloc; FAR; usize::from(topology.nodes())]?;
+    away[usize::from(to.0)] = 0;
+    let mut queue = VecDeque::new(alloc);
+    queue.push_back(to)?;
+    while let Some(node) = queue.pop_front() {
+        look_back(topology, by, node, &mut away, &mut queue)?;
+    }
+    Ok(away)
+}
+
+// Looks along each link that ends at the node.
+fn look_back(
+    topology: &Topology,
+    by: &LinkSet,
+    node: NodeId,
+    away: &mut [u16],
+    queue: &mut VecDeque<NodeId>,
+) -> Result<(), NoMemory>
+    requires joined { IsGraph topology.now }
+    requires node { node.0 < topology.now.nodes }
+    requires links { length by.now ≡ length topology.now.links }
+    requires size { length away.old ≡ topology.now.nodes }
+    ensures walk { OnOk result ((to : ℕ) → IsWalk topology.now (has by.now) to away.old (node ∷ queue.old.items) → IsWalk topology.now (has by.now) to away.new queue.new.items) }
+    ensures work { OnOk result (sum away.new + length queue.new.items ≤ sum away.old + length queue.old.items) }
+{
+    let next = entry(away, node).saturating_add(1);
+    for link in topology.ins(node) {
+        look_along(topology, by, *link, next, away, queue)?;
+    }
+    Ok(())
+}
+
+fn look_along(
+    topology: &Topology,
+    by: &LinkSet,
+    link: LinkId,
+    next: u16,
+    away: &mut [u16],
+    queue: &mut VecDeque<NodeId>,
+) -> Result<(), NoMemory>
+    requires link { link.0 < length topology.now.links }
+    requires links { length by.now ≡ length topology.now.links }
+    requires size { length away.old ≡ topology.now.nodes }
+    ensures { OnOk result (LooksAlong topology.now (has by.now) link.0 next away.old queue.old.items away.new queue.new.items) }
+{
+    let tail = topology.tail(link);
+    if by.has(link) && topology.is_half(tail) && next < entry(away, tail) {
+        queue.push_back(tail)?;
+        away[usize::from(tail.0)] = next;
+    }
+    Ok(())
+}
+
+pub fn entry(away: &[u16], node: NodeId) -> u16
+    requires { node.0 < length away.now }
+    ensures { result ≡ away_of away.now node.0 }
+{
+    away[usize::from(node.0)]
+}
