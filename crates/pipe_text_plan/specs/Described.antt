@@ -1,5 +1,5 @@
 -- What a topology part describes, or its first fault.
-use Rattle.std.specs.Prelude.{ℕ, nat_lt, ◌≤◌, Bool, if◌then◌else◌, List, ◌++◌, length, map, codes, Option, None, Some, Result, Ok, Err}
+use Rattle.std.specs.Prelude.{ℕ, min, nat_lt, ◌≤◌, Bool, if◌then◌else◌, List, ◌++◌, length, map, codes, Option, None, Some, Result, Ok, Err}
 use Rattle.toml.specs.Data.{Members}
 use Rattle.pipe_base.specs.declared.name.Ts.{Ts}
 use Rattle.pipe_text.specs.Words.{words_of}
@@ -67,8 +67,9 @@ abbrev pub with_switches : Document → Result (List (List ℕ × ℕ)) PlanFaul
 with_switches document (Err fault) = Err fault
 with_switches document (Ok switches) = with_names document switches (numbered (all_names document.hosts switches))
 
+-- more items than are numbered; their count, as far as 32 bits go
 abbrev pub crowd : What → ℕ → Option TopoFault
-crowd kind count = if nat_lt 32767 count then Some (TooMany kind count) else None
+crowd kind count = if nat_lt 32767 count then Some (TooMany kind (min count 4294967295)) else None
 
 -- the first array of more than 32,767 texts
 abbrev pub crowded : Document → Option TopoFault

@@ -1,9 +1,9 @@
 -- What a document says of a plan, by its keys.
 use Rattle.std.specs.Prelude.{ℕ, ◌&&◌, ◌||◌, not, nat_le, Bool, false, if◌then◌else◌, List, codes, Option, None, Some, option_and_then, ℤ, pos, negsuc}
 use Rattle.std.specs.Str.{bytes_eq, is_utf8}
-use Rattle.toml.specs.Data.{Data, Members, no_members, member, get_member, as_integer}
+use Rattle.toml.specs.Data.{Data, Members, no_members, member, get_member, as_array, as_integer}
 use Rattle.toml.specs.Parse.{parse_document}
-use Rattle.pipe_text_plan.specs.Texts.{texts_of}
+use Rattle.pipe_text_plan.specs.Texts.{item_texts}
 
 -- the document that the bytes are, where they are UTF-8 and TOML
 abbrev pub document_of : List ℕ → Option Members
@@ -19,7 +19,7 @@ has_extra (member key value rest) = not (is_key key) || has_extra rest
 
 -- the texts of the array at a key
 abbrev pub texts_at : List ℕ → Members → Option (List (List ℕ))
-texts_at key members = option_and_then texts_of (get_member key members)
+texts_at key members = option_and_then item_texts (option_and_then as_array (get_member key members))
 
 -- a patience: 1 to 281474976710654
 abbrev pub patience_in : ℤ → Option ℕ

@@ -1,7 +1,7 @@
 -- Arrays of texts, and a text in two.
-use Rattle.std.specs.Prelude.{ℕ, ◌==◌, nat_lt, Bool, if◌then◌else◌, List, [], ◌∷◌, length, Option, None, Some, option_and_then}
+use Rattle.std.specs.Prelude.{ℕ, ◌==◌, nat_lt, Bool, if◌then◌else◌, List, [], ◌∷◌, length, Option, None, Some}
 use Rattle.std.specs.List.{position_or_len, before_first, after_first}
-use Rattle.toml.specs.Data.{Data, Items, no_items, item, as_str, as_array}
+use Rattle.toml.specs.Data.{Data, Items, no_items, item, as_str}
 
 -- a text before others, where all are there
 abbrev pub text_onto : Option (List ℕ) → Option (List (List ℕ)) → Option (List (List ℕ))
@@ -13,10 +13,6 @@ text_onto (Some text) (Some texts) = Some (text ∷ texts)
 abbrev pub item_texts : Items → Option (List (List ℕ))
 item_texts no_items = Some []
 item_texts (item value rest) = text_onto (as_str value) (item_texts rest)
-
--- the texts of an array of texts
-abbrev pub texts_of : Data → Option (List (List ℕ))
-texts_of value = option_and_then item_texts (as_array value)
 
 abbrev pub is_space : ℕ → Bool
 is_space byte = byte == 32

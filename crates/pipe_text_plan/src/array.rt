@@ -1,5 +1,6 @@
 // Arrays of texts.
-ghost use Rattle.std.specs.Prelude.{◌≡◌, map, option_map, IfOk};
+ghost use Rattle.std.specs.Prelude.{◌≡◌, map, option_map, option_and_then, IfOk};
+ghost use Rattle.toml.specs.Data.{as_array, get_member};
 ghost use Rattle.toml.specs.View.{array_view, table_view};
 ghost use Rattle.pipe_text_plan.specs.Keys.{texts_at};
 ghost use Rattle.pipe_text_plan.specs.Texts.{item_texts};
@@ -17,12 +18,18 @@ pub fn texts_at<'a>(
 ) -> Result<Option<Vec<&'a str>>, NoMemory>
     ensures { IfOk result (λ found. option_map (λ texts. map (λ text. text.now) texts.items) found ≡ texts_at key.now (table_view table.now)) }
 {
-    let Some(value) = table.get(key) else {
-        return Ok(None);
-    };
-    match value.as_array() {
+    match array_at(table, key) {
         Some(array) => item_texts(alloc, array),
         None => Ok(None),
+    }
+}
+
+fn array_at<'a>(table: &'a Table, key: &str) -> Option<&'a Array>
+    ensures { option_map (λ array. array_view array.now) result ≡ option_and_then as_array (get_member key.now (table_view table.now)) }
+{
+    match table.get(key) {
+        Some(value) => value.as_array(),
+        None => None,
     }
 }
 

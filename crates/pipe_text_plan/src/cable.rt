@@ -44,9 +44,7 @@ pub fn cables_of(
             let at = cables.len() as u16;
             return Err(PlanError::Plan(PlanFault::CableText { at }));
         };
-        if cables.push(cable).is_err() {
-            return Err(PlanError::NoMemory);
-        }
+        cables.push(cable)?;
     }
     Ok(cables)
 }

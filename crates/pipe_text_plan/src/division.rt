@@ -1,6 +1,5 @@
 // The two parts of an input: the topology, and what comes after it.
-ghost use Rattle.std.specs.Prelude.{◌≡◌, ◌<◌, ◌≤◌, ◌^◌, length, option_map};
-ghost use Rattle.std.specs.Str.{bytes_eq};
+ghost use Rattle.std.specs.Prelude.{◌≡◌, ◌<◌, ◌^◌, length, option_map};
 ghost use Rattle.pipe_text.specs.Words.{words_of};
 ghost use Rattle.pipe_text_plan.specs.Pieces.{pieces};
 ghost use Rattle.pipe_text_plan.specs.Division.{is_mark, is_star, marked, division_of};
@@ -50,19 +49,19 @@ fn around_mark(input: &[u8]) -> Option<Parts<'_>>
     ensures { option_map division_view result ≡ marked (pieces input.now) }
 {
     let mut rest = input;
-    let mut line = 1;
+    let mut passed = 0;
     'pieces: while !rest.is_empty() {
         let (piece, after) = split_piece(rest);
-        line += 1;
         if is_mark(piece) {
             let (topology, _) = input.split_at(input.len() - rest.len());
             return Some(Parts {
                 star: false,
                 topology,
                 rest: after,
-                line,
+                line: passed + 2,
             });
         }
+        passed += 1;
         rest = after;
     }
     None

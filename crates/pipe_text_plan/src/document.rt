@@ -1,5 +1,7 @@
 // What a document says of a plan, by its keys.
-ghost use Rattle.std.specs.Prelude.{◌≡◌, ◌≤◌, IfOk, IfErr, Ok, Err};
+ghost use Rattle.std.specs.Prelude.{◌≡◌, not, string_bytes, IfOk, IfErr, Ok, Err};
+ghost use Rattle.std.specs.BTreeMap.{keys};
+ghost use Rattle.std.specs.List.{list_any};
 ghost use Rattle.toml.specs.View.{table_view};
 ghost use Rattle.pipe_text_plan.specs.declared.fault.PlanFault.{PlanFault as Fault};
 ghost use Rattle.pipe_text_plan.specs.Described.{keyed};
@@ -59,6 +61,12 @@ fn shape(key: KeyName) -> PlanError
 fn has_extra(table: &Table) -> bool
     ensures { result ≡ has_extra (table_view table.now) }
 {
+    has_other_key(table)
+}
+
+fn has_other_key(table: &Table) -> bool
+    ensures { result ≡ list_any (λ key. not (is_key (string_bytes key))) (keys table.now) }
+{
     table.keys().any(|key| !is_key(key.as_str()))
 }
 
@@ -72,8 +80,11 @@ fn patience_at(table: &Table) -> Option<u64>
     ensures { result ≡ patience_at (table_view table.now) }
 {
     match table.get("patience") {
-        Some(value) => patience_in(value.as_integer()?),
         None => Some(PATIENCE),
+        Some(value) => match value.as_integer() {
+            Some(number) => patience_in(number),
+            None => None,
+        },
     }
 }
 

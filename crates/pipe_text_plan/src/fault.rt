@@ -5,7 +5,7 @@ ghost use Rattle.pipe_text_plan.specs.FaultWords.{key_words, what_words};
 
 use pipe_base::NoMemory;
 use pipe_topo::{TopoFault, What};
-use std::alloc::AllocError;
+use std::alloc::AllocFailed;
 use std::fmt;
 
 /// The keys of a plan.
@@ -58,25 +58,14 @@ impl From<NoMemory> for PlanError {
     }
 }
 
-impl From<AllocError> for PlanError {
+impl<T: Drop> From<AllocFailed<T>> for PlanError {
     ghost use Rattle.std.specs.Prelude.{◌≡◌};
     ghost use Rattle.pipe_text_plan.specs.declared.fault.PlanError.TheVariants.{NoMemory};
 
     ghost from_gives = { λ _ e. e ≡ NoMemory };
 
-    fn from(_: AllocError) -> Self {
+    fn from(_: AllocFailed<T>) -> Self {
         PlanError::NoMemory
-    }
-}
-
-impl From<PlanFault> for PlanError {
-    ghost use Rattle.std.specs.Prelude.{◌≡◌};
-    ghost use Rattle.pipe_text_plan.specs.declared.fault.PlanError.TheVariants.{Plan};
-
-    ghost from_gives = { λ fault e. e ≡ Plan fault };
-
-    fn from(fault: PlanFault) -> Self {
-        PlanError::Plan(fault)
     }
 }
 

@@ -33,10 +33,19 @@ pub fn numbered(alloc: Global, all: &[&str]) -> Result<Names, PlanError>
 {
     let mut names = Names::new(alloc);
     'names: for name in all {
-        if !is_name(name) || !names.add(name)? {
-            let at = names.len();
-            return Err(PlanError::Plan(PlanFault::Name { at }));
+        if !is_name(name) {
+            return Err(wrong_name(&names));
+        }
+        if !names.add(name)? {
+            return Err(wrong_name(&names));
         }
     }
     Ok(names)
+}
+
+// The name after these is wrong.
+fn wrong_name(names: &Names) -> PlanError
+    ensures { result ≡ PlanError.Plan (PlanFault.Name (length names.now)) }
+{
+    PlanError::Plan(PlanFault::Name { at: names.len() })
 }

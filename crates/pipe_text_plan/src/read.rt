@@ -23,8 +23,11 @@ use pipe_topo::{LevelList, Names, Plan, TopoFault, Topology, What};
 use std::alloc::Global;
 use toml::Table;
 
-/// The most items of an array.
+// The most items of an array that are numbered.
 const ITEM_LIMIT: usize = 32767;
+
+// The most items of an array that are counted.
+const COUNT_LIMIT: usize = 4294967295;
 
 /// A topology as it was read.
 #[derive(Drop)]
@@ -134,7 +137,6 @@ fn crowded(texts: &Texts<'_>) -> Option<TopoFault>
 }
 
 fn crowd(what: What, count: usize) -> Option<TopoFault>
-    requires { count < 2 ^ 32 }
     ensures { result ≡ crowd what count }
 {
     if count <= ITEM_LIMIT {
@@ -142,7 +144,7 @@ fn crowd(what: What, count: usize) -> Option<TopoFault>
     }
     Some(TopoFault::TooMany {
         what,
-        count: count as u32,
+        count: count.min(COUNT_LIMIT) as u32,
     })
 }
 

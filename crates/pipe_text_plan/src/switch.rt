@@ -41,9 +41,7 @@ pub fn switches_of<'a>(alloc: Global, texts: &[&'a str]) -> Result<Vec<(&'a str,
             let at = switches.len() as u16;
             return Err(PlanError::Plan(PlanFault::SwitchText { at }));
         };
-        if switches.push(switch).is_err() {
-            return Err(PlanError::NoMemory);
-        }
+        switches.push(switch)?;
     }
     Ok(switches)
 }

@@ -13,7 +13,9 @@ fn is_blank(byte: u8) -> bool
 pub fn first_word(line: &[u8]) -> Option<&[u8]>
     ensures { option_copied result ≡ slice_get (words_of line.now) 0 }
 {
-    let start = word_start(line)?;
+    let Some(start) = word_start(line) else {
+        return None;
+    };
     let (_, words) = line.split_at(start);
     match word_end(words) {
         Some(end) => Some(words.split_at(end).0),

@@ -1,0 +1,5 @@
+pub mod PieceLaws
+pub mod WordLaws
+pub mod MarkLaws
+pub mod ReadLaws
+pub mod KeyLaws
