@@ -3,3 +3,5 @@ pub mod WordLaws
 pub mod MarkLaws
 pub mod ReadLaws
 pub mod KeyLaws
+pub mod StarLaws
+pub mod NameLaws

@@ -1,8 +1,9 @@
 // What a document says of a plan, by its keys.
-ghost use Rattle.std.specs.Prelude.{◌≡◌, not, string_bytes, IfOk, IfErr, Ok, Err};
+ghost use Rattle.std.specs.Prelude.{◌≡◌, not, string_bytes, option_and_then, IfOk, IfErr, Ok, Err};
 ghost use Rattle.std.specs.BTreeMap.{keys};
 ghost use Rattle.std.specs.List.{list_any};
-ghost use Rattle.toml.specs.View.{table_view};
+ghost use Rattle.toml.specs.Data.{as_integer};
+ghost use Rattle.toml.specs.View.{table_view, view};
 ghost use Rattle.pipe_text_plan.specs.declared.fault.PlanFault.{PlanFault as Fault};
 ghost use Rattle.pipe_text_plan.specs.Described.{keyed};
 ghost use Rattle.pipe_text_plan.specs.Keys.{is_key, has_extra, patience_in, patience_at};
@@ -11,7 +12,7 @@ ghost use Rattle.pipe_text_plan.specs.Views.{document_view};
 use crate::array::texts_at;
 use crate::fault::{KeyName, PlanError, PlanFault};
 use std::alloc::Global;
-use toml::Table;
+use toml::{Table, Value};
 
 // The patience where none is given.
 const PATIENCE: u64 = 1000;
@@ -80,19 +81,16 @@ fn patience_at(table: &Table) -> Option<u64>
     ensures { result ≡ patience_at (table_view table.now) }
 {
     match table.get("patience") {
+        Some(value) => patience_in(value),
         None => Some(PATIENCE),
-        Some(value) => match value.as_integer() {
-            Some(number) => patience_in(number),
-            None => None,
-        },
     }
 }
 
-fn patience_in(number: i64) -> Option<u64>
-    ensures { result ≡ patience_in number }
+fn patience_in(value: &Value) -> Option<u64>
+    ensures { result ≡ option_and_then patience_in (as_integer (view value.now)) }
 {
-    if number < 1 || 281474976710654 < number {
-        return None;
+    match value.as_integer() {
+        Some(number) if 1 <= number && number <= 281474976710654 => Some(number as u64),
+        _ => None,
     }
-    Some(number as u64)
 }
