@@ -1,12 +1,12 @@
 -- What is kept stands for one moment more, and what a search among the registers finds.
-use Rattle.std.proofs.Common.{◌≡◌, ℕ, ◌+◌, ◌-◌, ◌<◌, ◌≤◌, ◌==◌, ◌&&◌, ◌||◌, if◌then◌else◌, max, min, Bool, true, false, cond, not, Option, None, Some, unwrap_or, option_map, List, [], ◌∷◌, ◌++◌, length, get_or, take, drop, set, map, filter, find, refl, sym, ap, ap₂, ◌∙◌, le_refl, le_of_lt, arith, eqb-true, length-take-le, get_or-drop, take_all, append-nil}
+use Rattle.std.proofs.Common.{◌≡◌, ℕ, ◌+◌, ◌-◌, ◌<◌, ◌≤◌, ◌==◌, ◌&&◌, ◌||◌, if◌then◌else◌, max, min, Bool, true, false, cond, not, Option, None, Some, unwrap_or, option_map, List, [], ◌∷◌, ◌++◌, length, get_or, take, drop, set, map, find, refl, sym, ap, ap₂, ◌∙◌, le_refl, le_of_lt, arith, eqb-true, length-take-le, get_or-drop, take_all, append-nil}
 use Rattle.std.proofs.lemmas.List.{length-map, get_or-append_right, get_or_default, at_drop_more, at_drop_all, drop_all}
 use Rattle.std.proofs.lemmas.List.Edits.{map_over_more}
 use Rattle.pipe_base.specs.declared.name.LinkId.{LinkId}
 use Rattle.pipe_base.specs.declared.name.Ts.{Ts}
 use Rattle.pipe_base.specs.declared.packet.Plane.{Plane}
 use Rattle.pipe_base.specs.declared.packet.Plane.TheVariants.{BestEffort, Commit}
-use Rattle.pipe_base.specs.Moment.{Moment, is_up, is_kept, is_used, in_use, has_link}
+use Rattle.pipe_base.specs.Moment.{Moment, is_used, in_use, has_link}
 use Rattle.pipe_base.specs.Barrier.{register, least_of, level, barrier}
 use Rattle.pipe_barrier.specs.declared.change.Change.{Change}
 use Rattle.pipe_barrier.specs.declared.change.Change.TheVariants.{Received, WentDown, Dropped}

@@ -1,5 +1,5 @@
 -- What the registers of a node keep, and what they stand for.
-use Rattle.std.specs.Prelude.{◌≡◌, ℕ, List, map}
+use Rattle.std.specs.Prelude.{◌≡◌, ℕ, List, ◌∷◌, map}
 use Rattle.pipe_base.specs.declared.name.LinkId.{LinkId}
 use Rattle.pipe_base.specs.declared.packet.Plane.TheVariants.{BestEffort, Commit}
 use Rattle.pipe_base.specs.Moment.{Moment}
@@ -27,3 +27,11 @@ pub record Stands (ins : List LinkId) (kept : Kept) (past : List Moment) : Type 
   pub links_are : kept.links ≡ map (register_of past) ins
   pub be_is : kept.be ≡ barrier BestEffort ins past
   pub commit_is : kept.commit ≡ barrier Commit ins past
+
+-- whatever history the old registers stand for, the new ones stand for it with one moment more
+abbrev pub AddsMoment : Kept → Kept → Moment → Type 0
+AddsMoment old new m = (ins : List LinkId) (past : List Moment) → Stands ins old past → Stands ins new (m ∷ past)
+
+-- whatever history the registers stand for, these are its barriers with one moment more
+abbrev pub AreBarriersAfter : Kept → Moment → Barriers → Type 0
+AreBarriersAfter kept m b = (ins : List LinkId) (past : List Moment) → Stands ins kept past → AreBarriers ins (m ∷ past) b

@@ -7,5 +7,6 @@ ghost use Rattle.pipe_base.specs.Barrier.{IsGreatestOrZero, IsPassed, barrier};
 
 /// The barrier of a node is the greatest bound that was passed at some moment, or 0 where none was.
 pub fn barrier_is_greatest_passed()
-    ensures { (plane : Plane) (ins : List LinkId) (past : List Moment) → IsGreatestOrZero (IsPassed plane ins past) (barrier plane ins past) }
+    ensures { (plane : Plane) (ins : List LinkId) (past : List Moment)
+        → IsGreatestOrZero (IsPassed plane ins past) (barrier plane ins past) }
 {}

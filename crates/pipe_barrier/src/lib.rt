@@ -1,4 +1,5 @@
-//! The registers of a node: per in-link the greatest barriers received, and the node's two barriers over the links in use.
+//! The registers of a node: per in-link the greatest barriers received, and the node's two barriers
+//! over the links in use.
 #![tactic(auto)]
 
 mod change;

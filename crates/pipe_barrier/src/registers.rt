@@ -4,7 +4,7 @@ ghost use Rattle.pipe_base.specs.declared.packet.Plane.TheVariants.{BestEffort, 
 ghost use Rattle.pipe_base.specs.Moment.{Moment, Received, WentDown, Dropped, is_up, is_kept, has_link};
 ghost use Rattle.pipe_base.specs.Barrier.{register};
 ghost use Rattle.pipe_barrier.specs.Register.{moment_of, register_after, least_from};
-ghost use Rattle.pipe_barrier.specs.Registers.{Kept, Stands, AreBarriers, kept_with};
+ghost use Rattle.pipe_barrier.specs.Registers.{Stands, AddsMoment, AreBarriersAfter, kept_with};
 
 use crate::change::Change;
 use crate::register::{Register, lower};
@@ -67,34 +67,34 @@ impl Registers {
 
     /// A packet was received on an in-link that is up. One walk over the in-links.
     pub fn raise(&mut self, link: LinkId, be: Ts, commit: Ts)
-        ensures { (ins : List LinkId) (past : List Moment) → Stands ins self.old past → Stands ins self.new (Received link.0 be.0 commit.0 ∷ past) }
+        ensures { AddsMoment self.old self.new (Received link.0 be.0 commit.0) }
     {
         self.change(link, Change::Received { be, commit });
     }
 
     /// An in-link that was up went down. One walk over the in-links.
     pub fn down(&mut self, link: LinkId)
-        ensures { (ins : List LinkId) (past : List Moment) → Stands ins self.old past → Stands ins self.new (WentDown link.0 ∷ past) }
+        ensures { AddsMoment self.old self.new (WentDown link.0) }
     {
         self.change(link, Change::WentDown);
     }
 
     /// The node came to know an in-link as dropped. One walk over the in-links.
     pub fn remove(&mut self, link: LinkId)
-        ensures { (ins : List LinkId) (past : List Moment) → Stands ins self.old past → Stands ins self.new (Dropped link.0 ∷ past) }
+        ensures { AddsMoment self.old self.new (Dropped link.0) }
     {
         self.change(link, Change::Dropped);
     }
 
     fn change(&mut self, link: LinkId, change: Change)
-        ensures { (ins : List LinkId) (past : List Moment) → Stands ins self.old past → Stands ins self.new (moment_of link change ∷ past) }
+        ensures { AddsMoment self.old self.new (moment_of link change) }
     {
         self.barriers = change_all(&mut self.links, self.barriers, link, change);
     }
 
     /// The barriers that `raise` would lead to.
     pub fn raised(&self, link: LinkId, be: Ts, commit: Ts) -> Barriers
-        ensures { (ins : List LinkId) (past : List Moment) → Stands ins self.now past → AreBarriers ins (Received link.0 be.0 commit.0 ∷ past) result }
+        ensures { AreBarriersAfter self.now (Received link.0 be.0 commit.0) result }
     {
         barriers_after(
             &self.links,
@@ -106,7 +106,8 @@ impl Registers {
 
     /// Whether the link is an in-link that is up.
     pub fn is_up(&self, link: LinkId) -> bool
-        ensures { (ins : List LinkId) (past : List Moment) → Stands ins self.now past → result ≡ (has_link link.0 ins && is_up past link.0) }
+        ensures { (ins : List LinkId) (past : List Moment) → Stands ins self.now past
+            → result ≡ (has_link link.0 ins && is_up past link.0) }
     {
         match self.find(link) {
             Some(register) => register.up,
@@ -116,7 +117,8 @@ impl Registers {
 
     /// Whether the link is an in-link that is known as dropped.
     pub fn is_removed(&self, link: LinkId) -> bool
-        ensures { (ins : List LinkId) (past : List Moment) → Stands ins self.now past → result ≡ (has_link link.0 ins && not (is_kept past link.0)) }
+        ensures { (ins : List LinkId) (past : List Moment) → Stands ins self.now past
+            → result ≡ (has_link link.0 ins && not (is_kept past link.0)) }
     {
         match self.find(link) {
             Some(register) => !register.kept,
@@ -124,9 +126,11 @@ impl Registers {
         }
     }
 
-    /// The commit register of an in-link, which stands still once the link is down. 0 for any other link.
+    /// The commit register of an in-link, which stands still once the link is down. 0 for a link
+    /// that is no in-link.
     pub fn frozen(&self, link: LinkId) -> Ts
-        ensures { (ins : List LinkId) (past : List Moment) → Stands ins self.now past → result.0 ≡ (if has_link link.0 ins then register Commit past link.0 else 0) }
+        ensures { (ins : List LinkId) (past : List Moment) → Stands ins self.now past
+            → result.0 ≡ (if has_link link.0 ins then register Commit past link.0 else 0) }
     {
         match self.find(link) {
             Some(register) => register.commit,
@@ -163,7 +167,7 @@ impl Registers {
 
 /// Changes the register of one link and lets the barriers follow, in one walk.
 fn change_all(links: &mut [Register], barriers: Barriers, link: LinkId, change: Change) -> Barriers
-    ensures { (ins : List LinkId) (past : List Moment) → Stands ins (kept_with links.old barriers) past → Stands ins (kept_with links.new result) (moment_of link change ∷ past) }
+    ensures { AddsMoment (kept_with links.old barriers) (kept_with links.new result) (moment_of link change) }
 {
     let mut be = None;
     let mut commit = None;
@@ -177,7 +181,7 @@ fn change_all(links: &mut [Register], barriers: Barriers, link: LinkId, change: 
 
 /// The barriers that `change_all` would lead to.
 fn barriers_after(links: &[Register], barriers: Barriers, link: LinkId, change: Change) -> Barriers
-    ensures { (ins : List LinkId) (past : List Moment) → Stands ins (kept_with links.now barriers) past → AreBarriers ins (moment_of link change ∷ past) result }
+    ensures { AreBarriersAfter (kept_with links.now barriers) (moment_of link change) result }
 {
     let mut be = None;
     let mut commit = None;
@@ -187,4 +191,91 @@ fn barriers_after(links: &[Register], barriers: Barriers, link: LinkId, change: 
         commit = lower(commit, register.kept, register.commit);
     }
     barriers.follow(be, commit)
+}
+
+#[cfg(test)]
+mod tests {
+    use super::*;
+    use std::test::Fail;
+
+    const A: LinkId = LinkId(4);
+
+    const B: LinkId = LinkId(7);
+
+    #[derive(Clone, Copy)]
+    enum Call {
+        Raise(LinkId, u64, u64),
+        Down(LinkId),
+        Remove(LinkId),
+    }
+
+    fn make(registers: &mut Registers, call: Call) {
+        match call {
+            Call::Raise(link, be, commit) => registers.raise(link, Ts(be), Ts(commit)),
+            Call::Down(link) => registers.down(link),
+            Call::Remove(link) => registers.remove(link),
+        }
+    }
+
+    // Each call with the two barriers after it, worked out by hand from the rule: the barrier
+    // follows the least register of the links in use and never falls; a link that is down stays
+    // in commit use until it is removed.
+    #[test]
+    fn barriers_follow_the_links_in_use(rt: HostRuntime) -> Result<(), Fail> {
+        let mut registers = Registers::new(rt.alloc(), [A, B].as_slice())?;
+        for (call, be, commit) in [
+            (Call::Raise(A, 5, 3), 0, 0),
+            (Call::Raise(B, 7, 4), 5, 3),
+            (Call::Raise(B, 6, 9), 5, 3),
+            (Call::Raise(A, 10, 8), 7, 8),
+            (Call::Down(A), 7, 8),
+            (Call::Raise(B, 20, 30), 20, 8),
+            (Call::Remove(A), 20, 30),
+            (Call::Raise(B, 21, 31), 21, 31),
+            (Call::Down(B), 21, 31),
+            (Call::Remove(B), 21, 31),
+        ] {
+            if let Call::Raise(link, raised_be, raised_commit) = call {
+                let raised = registers.raised(link, Ts(raised_be), Ts(raised_commit));
+                assert_eq!(rt; (raised.be, raised.commit), (Ts(be), Ts(commit)));
+            }
+            make(&mut registers, call);
+            assert_eq!(rt; (registers.be(), registers.commit()), (Ts(be), Ts(commit)));
+        }
+        Ok(())
+    }
+
+    #[test]
+    fn tells_of_a_link(rt: HostRuntime) -> Result<(), Fail> {
+        let mut registers = Registers::new(rt.alloc(), [A, B].as_slice())?;
+        registers.raise(A, Ts(2), Ts(1));
+        registers.down(A);
+        assert_eq!(rt;
+            (
+                registers.is_up(A),
+                registers.is_removed(A),
+                registers.frozen(A)
+            ),
+            (false, false, Ts(1))
+        );
+        registers.remove(A);
+        let copy = registers.try_clone()?;
+        assert_eq!(rt;
+            (copy.is_up(A), copy.is_removed(A), copy.frozen(A)),
+            (false, true, Ts(1))
+        );
+        assert_eq!(rt;
+            (copy.is_up(B), copy.is_removed(B), copy.frozen(B)),
+            (true, false, Ts(0))
+        );
+        assert_eq!(rt;
+            (
+                copy.is_up(LinkId(5)),
+                copy.is_removed(LinkId(5)),
+                copy.frozen(LinkId(5))
+            ),
+            (false, false, Ts(0))
+        );
+        Ok(())
+    }
 }

@@ -1,7 +1,6 @@
 -- Laws of registers and barriers, of both planes.
-use Rattle.std.proofs.Common.{◌≡◌, ℕ, zero, suc, ◌<◌, ◌≤◌, max, Bool, true, false, ◌||◌, cond, eqb, ◌==◌, if◌then◌else◌, List, [], ◌∷◌, length, get_or, All, filter, IsTrue, ◌⊎◌, inl, inr, ⊎_elim, refl, sym, ap, ◌∙◌, le_trans, le_refl, arith, eq-eqb, eqb-true}
+use Rattle.std.proofs.Common.{◌≡◌, ℕ, zero, suc, ◌<◌, ◌≤◌, max, Bool, true, false, cond, ◌==◌, if◌then◌else◌, List, [], ◌∷◌, length, get_or, All, filter, IsTrue, ◌⊎◌, inl, inr, ⊎_elim, refl, ap, ◌∙◌, le_trans, le_refl, arith, eq-eqb, eqb-true}
 use Rattle.std.proofs.lemmas.Bool.{cases_lt, or_cases, or_left, or_right}
-use Rattle.std.proofs.lemmas.List.Elements.{All-tail}
 use Rattle.pipe_base.specs.declared.name.LinkId.{LinkId}
 use Rattle.pipe_base.specs.declared.packet.Plane.{Plane}
 use Rattle.pipe_base.specs.declared.packet.Plane.TheVariants.{BestEffort, Commit}

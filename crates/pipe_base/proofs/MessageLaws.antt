@@ -1,18 +1,20 @@
 -- Laws of messages in the total order: what a barrier leaves of them, and how a key is found, put and taken out.
-use Rattle.std.proofs.Common.{◌≡◌, ◌≢◌, ◌⊎◌, ℕ, ◌<◌, ◌≤◌, ◌==◌, ◌&&◌, ◌||◌, not, Bool, true, false, cond, if◌then◌else◌, eqb, nat_lt, nat_le, List, [], ◌∷◌, ◌++◌, map, filter, All, is_some, Some, refl, inl, inr, ⊎_elim, sym, subst, ap, ap₂, ◌∙◌, le_trans, arith, eqb-true, ne_eqb, le-leb, leb-true, leb-false, ltb-true, lt-ltb, le-ltb}
+use Rattle.std.proofs.Common.{◌≡◌, ◌⊎◌, ℕ, ◌<◌, ◌≤◌, ◌==◌, ◌||◌, not, Bool, true, false, cond, nat_lt, nat_le, List, [], ◌∷◌, ◌++◌, filter, All, is_some, Some, refl, inl, inr, ⊎_elim, sym, subst, ap, ap₂, ◌∙◌, le_trans, arith, eqb-true, ne_eqb, le-leb, leb-true, leb-false, ltb-true, lt-ltb, le-ltb}
 use Rattle.std.proofs.lemmas.Bool.{lt-leb, cases_lt, and_parts, and_from, and_left, and_right, or_parts, not_from_true, not_from_false, both_ways}
 use Rattle.std.proofs.lemmas.Bool.Decides.{nat_tests}
-use Rattle.std.specs.List.{list_any, AllByRecursion}
+use Rattle.std.specs.List.{AllByRecursion}
 use Rattle.std.specs.List.Sorted.{IsStrictlySortedBy}
 use Rattle.std.specs.Map.{keys_of, lookup, remove_entry}
-use Rattle.std.specs.Ordering.{nat_cmp, ordering_then, match_ordering, is_eq}
+use Rattle.std.specs.Ordering.{match_ordering, is_eq}
 use Rattle.std.specs.declared.cmp.Ordering.{Ordering}
 use Rattle.std.specs.declared.cmp.Ordering.TheVariants.{Less, Equal, Greater}
-use Rattle.std.specs.BTreeMap.{insert_entry, is_at}
-use Rattle.std.proofs.lemmas.List.Elements.{All-nil, All-cons, All-head, All-tail, All-weaker, filter_passes}
+use Rattle.std.specs.BTreeMap.{is_at}
+use Rattle.std.proofs.lemmas.List.Elements.{All-nil, All-cons, All-head, All-tail, All-weaker, All-map, filter_passes}
 use Rattle.std.proofs.lemmas.Map.Keys.{sorted_head, sorted_tail}
+use Rattle.pipe_base.specs.declared.message.Entry.{Entry}
 use Rattle.pipe_base.specs.declared.message.Key.{Key}
-use Rattle.pipe_base.specs.Messages.{Messages, key_cmp, Before, IsInOrder, with_message, without_message, same_key, has_key, from_barrier, below_barrier}
+use Rattle.pipe_base.specs.declared.message.Service.{Service}
+use Rattle.pipe_base.specs.Messages.{Messages, key_cmp, Before, IsInOrder, with_message, without_message, same_key, has_key, from_barrier, below_barrier, entry_of, logged_of, AreBelow}
 use Rattle.pipe_base.proofs.KeyOrder.{less_before, equal_same, greater_after, same_numbers}
 
 -- ---- filters
@@ -272,3 +274,8 @@ removed_is k [] order = refl
 removed_is k (m ∷ ms) order =
     ap (λ (t : Bool). cond t ms (m ∷ remove_entry (is_at (key_cmp k)) ms)) (is_at-same_key k m.0)
     ∙ removed_by k m ms order (removed_is k ms order.1) (same_key m.0 k) refl
+
+-- what is logged is below the barrier: one more than its timestamp is at most the barrier
+pub logged-below : (service : Service) (b : ℕ) (ms : Messages) → AreBelow b (logged_of service (below_barrier b ms))
+logged-below service b ms =
+    All-map (λ (e : Service × Entry). e.1.key.ts.0 < b) (λ (m : Key × List ℕ). (service, entry_of m)) (below_barrier b ms) (below-all b ms)

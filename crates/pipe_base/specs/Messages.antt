@@ -54,3 +54,7 @@ entry_of m = record { key = m.0; body = m.1 }
 -- messages as lines of the log of a service
 abbrev pub logged_of : Service → Messages → List (Service × Entry)
 logged_of service messages = map (λ m. (service, entry_of m)) messages
+
+-- all that is logged is below a barrier
+abbrev pub AreBelow : ℕ → List (Service × Entry) → Type 0
+AreBelow barrier logged = All (λ e. e.1.key.ts.0 < barrier) logged

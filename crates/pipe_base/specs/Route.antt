@@ -1,5 +1,5 @@
 -- The way of a packet: the link on which a node puts it.
-use Rattle.std.specs.Prelude.{ℕ, ◌==◌, ◌||◌, if◌then◌else◌, Bool, List, [], ◌∷◌, Option, None, Some, find}
+use Rattle.std.specs.Prelude.{ℕ, ◌==◌, ◌||◌, if◌then◌else◌, Bool, List, Option, None, find}
 use Rattle.pipe_base.specs.declared.name.LinkId.{LinkId}
 use Rattle.pipe_base.specs.Graph.{Graph, head_of, is_host, is_half, outs_of}
 

@@ -1,5 +1,5 @@
 -- The way of a packet in any network: one of the links that begin a shortest path to the receiver.
-use Rattle.std.specs.Prelude.{◌≡◌, ℕ, zero, suc, ◌+◌, ◌%◌, ◌≤◌, ◌==◌, ◌&&◌, not, if◌then◌else◌, Bool, false, List, [], ◌∷◌, length, map, filter, slice_get, slice_index_or, Option, None}
+use Rattle.std.specs.Prelude.{ℕ, zero, suc, ◌+◌, ◌%◌, ◌≤◌, ◌==◌, ◌&&◌, not, if◌then◌else◌, Bool, false, List, [], ◌∷◌, length, map, filter, slice_get, slice_index_or, Option, None}
 use Rattle.std.specs.List.{list_any, range_with_len}
 use Rattle.pipe_base.specs.declared.name.LinkId.{LinkId}
 use Rattle.pipe_base.specs.Below.{any_below}

@@ -1,4 +1,5 @@
 pub mod Acting
+pub mod Determined
 pub mod Genuine
 pub mod Packets
 pub mod Sent

@@ -1,5 +1,5 @@
 -- Lemmas on tests of the numbers below a bound, and on how many pass.
-use Rattle.std.proofs.Common.{◌≡◌, ◌≢◌, ℕ, zero, suc, ◌+◌, ◌<◌, ◌≤◌, Bool, true, false, ◌||◌, if◌then◌else◌, inl, inr, refl, sym, ap, subst, ◌∙◌, true≢false, arith}
+use Rattle.std.proofs.Common.{◌≡◌, ℕ, zero, suc, ◌+◌, ◌<◌, ◌≤◌, Bool, true, false, if◌then◌else◌, inl, inr, refl, sym, subst, ◌∙◌, true≢false, arith}
 use Rattle.std.proofs.lemmas.Bool.Decides.{eqb_tells}
 use Rattle.pipe_base.specs.Below.{any_below}
 use Rattle.pipe_paths.proofs.Tests.{or_cases, or_left, or_right, not_from}
@@ -8,16 +8,16 @@ pub any_below_gives : (p : ℕ → Bool) (n : ℕ) → any_below p n ≡ true �
 any_below_gives p zero h = absurd (true≢false (sym h))
 any_below_gives p (suc n) h =
     elim (or_cases (p n) (any_below p n) h) [
-      inl here ↦ (n, omega arith, here)
-    | inr below ↦ let found = any_below_gives p n below in (found.0, omega arith, found.2)
+      | inl here ↦ (n, omega arith, here)
+      | inr below ↦ let found = any_below_gives p n below in (found.0, omega arith, found.2)
     ]
 
 pub any_below_from : (p : ℕ → Bool) (n k : ℕ) → k < n → p k ≡ true → any_below p n ≡ true
 any_below_from p zero k lt h = absurd (omega arith)
 any_below_from p (suc n) k lt h =
     elim (eqb_tells k n) [
-      inl same ↦ or_left (p n) (any_below p n) (subst (λ (j : ℕ). p j ≡ true) same.1 h)
-    | inr other ↦ let apart = other.1 in or_right (p n) (any_below p n) (any_below_from p n k (omega arith) h)
+      | inl same ↦ or_left (p n) (any_below p n) (subst (λ (j : ℕ). p j ≡ true) same.1 h)
+      | inr other ↦ let apart = other.1 in or_right (p n) (any_below p n) (any_below_from p n k (omega arith) h)
     ]
 
 pub none_below : (p : ℕ → Bool) (n k : ℕ) → any_below p n ≡ false → k < n → p k ≡ false
@@ -55,8 +55,8 @@ pub count_gains : (p q : ℕ → Bool) (n j : ℕ) → ((k : ℕ) → k < n → 
 count_gains p q zero j more lt old new = absurd (omega arith)
 count_gains p q (suc n) j more lt old new =
     elim (eqb_tells j n) [
-      inl same ↦ omega (arith, one_gains (p n) (q n) (subst (λ (k : ℕ). p k ≡ false) same.1 old) (subst (λ (k : ℕ). q k ≡ true) same.1 new), count_grows p q n (λ k below. more k (omega arith)))
-    | inr other ↦ let apart = other.1 in omega (arith, one_grows (p n) (q n) (more n (omega arith)), count_gains p q n j (λ k below. more k (omega arith)) (omega arith) old new)
+      | inl same ↦ omega (arith, one_gains (p n) (q n) (subst (λ (k : ℕ). p k ≡ false) same.1 old) (subst (λ (k : ℕ). q k ≡ true) same.1 new), count_grows p q n (λ k below. more k (omega arith)))
+      | inr other ↦ let apart = other.1 in omega (arith, one_grows (p n) (q n) (more n (omega arith)), count_gains p q n j (λ k below. more k (omega arith)) (omega arith) old new)
     ]
 
 pub count_most : (p : ℕ → Bool) (n : ℕ) → count_below p n ≤ n

@@ -3,6 +3,7 @@ pub mod Listed
 pub mod PathLaws
 pub mod ReachLaws
 pub mod Rounds
+pub mod RouteLaws
 pub mod Shortest
 pub mod Tests
 pub mod Turn

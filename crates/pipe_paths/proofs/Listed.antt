@@ -1,11 +1,10 @@
 -- Lemmas on lists of links that are filtered from all links, as those out of a node.
-use Rattle.std.proofs.Common.{◌≡◌, ℕ, zero, suc, ◌+◌, ◌<◌, ◌≤◌, ◌==◌, Bool, true, false, List, [], ◌∷◌, length, map, filter, get_or, All, Contains, refl, sym, ap, subst, ◌∙◌, true≢false, arith}
+use Rattle.std.proofs.Common.{◌≡◌, ℕ, zero, suc, ◌<◌, Bool, true, false, List, [], ◌∷◌, length, map, filter, get_or, All, Contains, refl, sym, subst, ◌∙◌, true≢false, arith}
 use Rattle.std.specs.List.{range_with_len}
-use Rattle.std.proofs.lemmas.List.Elements.{All-head, All-tail, All-map, All-filter, All-from_get_or, All-contains_itself, All-contains}
+use Rattle.std.proofs.lemmas.List.Elements.{All-head, All-tail, All-map, All-filter, All-from_get_or, All-contains_itself}
 use Rattle.std.proofs.lemmas.List.FromFn.{get_or-range_with_len, length-range_with_len, get_or-map-range_with_len, length-map-range_with_len}
-use Rattle.std.proofs.lemmas.Bool.{eqb-true, eq-eqb}
 use Rattle.pipe_base.specs.declared.name.LinkId.{LinkId}
-use Rattle.pipe_base.specs.Graph.{Graph, tail_of, head_of, link_id, all_links, outs_of, ins_of}
+use Rattle.pipe_base.specs.Graph.{link_id}
 
 -- what holds of all that a filter keeps holds of each that passes
 pub filter_all : {X : Type 0} (p : X → Bool) (P : X → Type 0) (xs : List X) → All P (filter p xs) → (k : ℕ) (d : X) → k < length xs → p (get_or xs k d) ≡ true → P (get_or xs k d)
@@ -44,7 +43,7 @@ pub numbered_below : (n : ℕ) → All (λ (l : LinkId). l.0 < n) (map link_id (
 numbered_below n =
     All-map (λ (l : LinkId). l.0 < n) link_id (range_with_len 0 n)
     (All-from_get_or (λ (k : ℕ). k < n) (range_with_len 0 n) 0
-        (λ i lt. let size = length-range_with_len 0 n in let at = get_or-range_with_len 0 n i 0 (omega arith) in omega arith))
+    (λ i lt. let size = length-range_with_len 0 n in let at = get_or-range_with_len 0 n i 0 (omega arith) in omega arith))
 
 pub listed_below : (p : LinkId → Bool) (n : ℕ) → All (λ (l : LinkId). l.0 < n) (filter p (map link_id (range_with_len 0 n)))
 listed_below p n = All-filter p (λ (l : LinkId). l.0 < n) (map link_id (range_with_len 0 n)) (numbered_below n)

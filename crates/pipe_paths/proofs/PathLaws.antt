@@ -1,5 +1,5 @@
 -- Lemmas on paths: joined at a half, split at a link, by a larger set.
-use Rattle.std.proofs.Common.{◌≡◌, ℕ, ◌+◌, ◌<◌, ◌≤◌, Bool, true, List, [], ◌∷◌, ◌++◌, length, refl, sym, ap, subst, ◌∙◌, arith}
+use Rattle.std.proofs.Common.{◌≡◌, ℕ, ◌<◌, ◌≤◌, Bool, true, List, [], ◌∷◌, ◌++◌, length, ◌⊎◌, inl, inr, refl, sym, ap, subst, arith}
 use Rattle.pipe_base.specs.Graph.{Graph, IsGraph, tail_of, head_of, is_half}
 use Rattle.pipe_base.specs.Path.{LeavesBy, Leads, IsPath}
 
@@ -57,3 +57,43 @@ leads_end g by n b (l ∷ ls) graph lt leads = leads_end g by (head_of g l) b ls
 pub path_end : (g : Graph) (by : ℕ → Bool) (a b : ℕ) (p : List ℕ) → IsGraph g → IsPath g by a b p → b < g.nodes
 path_end g by a b [] graph path = absurd path
 path_end g by a b (l ∷ ls) graph path = leads_end g by (head_of g l) b ls graph (graph.heads_in l path.0.known) path.1
+
+-- a bound that each link carries, from what its tail sends to what its head knows, is carried along
+module _ (g : Graph) (by : ℕ → Bool) (known sent : ℕ → ℕ) (passes_on : (n : ℕ) → is_half g n ≡ true → sent n ≡ known n)
+    (carries : (l : ℕ) → l < length g.links → by l ≡ true → known (head_of g l) ≤ sent (tail_of g l)) where
+  leads_carry : (ls : List ℕ) (n b : ℕ) → Leads g by n b ls → known b ≤ known n
+  leads_carry [] n b leads = let e = ap known leads in omega arith
+  leads_carry (l ∷ ls) n b leads =
+      let rest = leads_carry ls (head_of g l) b leads.2 in
+      let here = carries l leads.1.known leads.1.used in
+      let from = ap sent leads.1.begins in
+      let on = passes_on n leads.0 in
+      omega arith
+
+  path_carried : (a b : ℕ) (p : List ℕ) → IsPath g by a b p → known b ≤ sent a
+  path_carried a b [] path = absurd path
+  path_carried a b (l ∷ ls) path =
+      let rest = leads_carry ls (head_of g l) b path.1 in
+      let here = carries l path.0.known path.0.used in
+      let from = ap sent path.0.begins in
+      omega arith
+
+pub path_carries : (g : Graph) (by : ℕ → Bool) (known sent : ℕ → ℕ) → ((n : ℕ) → is_half g n ≡ true → sent n ≡ known n)
+    → ((l : ℕ) → l < length g.links → by l ≡ true → known (head_of g l) ≤ sent (tail_of g l)) → (a b : ℕ) (p : List ℕ) → IsPath g by a b p → known b ≤ sent a
+path_carries g by known sent passes_on carries a b p path = path_carried g by known sent passes_on carries a b p path
+
+-- a link of a list that leads on begins at a half, and the links before it lead to its tail
+leads_to_link : (g : Graph) (by : ℕ → Bool) (n b l : ℕ) (before after : List ℕ) → Leads g by n b (before ++ l ∷ after)
+    → (is_half g (tail_of g l) ≡ true) × Leads g by n (tail_of g l) before
+leads_to_link g by n b l [] after leads = (subst (λ (m : ℕ). is_half g m ≡ true) (sym leads.1.begins) leads.0, sym leads.1.begins)
+leads_to_link g by n b l (k ∷ before) after leads =
+    let rest = leads_to_link g by (head_of g k) b l before after leads.2 in
+    (rest.0, (leads.0, leads.1, rest.1))
+
+-- a link of a path begins at the start, or at a half to which the links before it are a path
+pub path_to_link : (g : Graph) (by : ℕ → Bool) (a b l : ℕ) (before after : List ℕ) → IsPath g by a b (before ++ l ∷ after)
+    → (a ≡ tail_of g l) ⊎ ((is_half g (tail_of g l) ≡ true) × IsPath g by a (tail_of g l) before)
+path_to_link g by a b l [] after path = inl (sym path.0.begins)
+path_to_link g by a b l (k ∷ before) after path =
+    let rest = leads_to_link g by (head_of g k) b l before after path.1 in
+    inr (rest.0, (path.0, rest.1))

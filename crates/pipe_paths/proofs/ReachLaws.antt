@@ -1,8 +1,8 @@
 -- What "leads on within so many links" says: there is a list of links, both ways.
-use Rattle.std.proofs.Common.{◌≡◌, ℕ, zero, suc, ◌+◌, ◌<◌, ◌≤◌, ◌==◌, Bool, true, ◌&&◌, ◌||◌, List, [], ◌∷◌, length, inl, inr, refl, sym, ap, subst, ◌∙◌, arith}
+use Rattle.std.proofs.Common.{◌≡◌, ℕ, zero, suc, ◌<◌, ◌≤◌, ◌==◌, Bool, true, ◌&&◌, ◌||◌, List, [], ◌∷◌, length, inl, inr, refl, ap, arith}
 use Rattle.std.proofs.lemmas.Bool.{eqb-true, eq-eqb}
 use Rattle.pipe_base.specs.Graph.{Graph, tail_of, head_of, is_half}
-use Rattle.pipe_base.specs.Path.{LeavesBy, Leads, IsPath}
+use Rattle.pipe_base.specs.Path.{LeavesBy, Leads}
 use Rattle.pipe_base.specs.Reach.{goes_on, leads_within, reaches}
 use Rattle.pipe_paths.proofs.Tests.{and_parts, and_both, or_cases, or_left, or_right}
 use Rattle.pipe_paths.proofs.BelowLaws.{any_below_gives, any_below_from, any_below_alike}
@@ -20,19 +20,19 @@ pub goes_on_from : (g : Graph) (by : ℕ → Bool) (n : ℕ) (passes : ℕ → B
 goes_on_from g by n passes l leaves pass =
     any_below_from (λ (k : ℕ). (by k && (tail_of g k == n)) && passes (head_of g k)) (length g.links) l leaves.known
     (and_both (by l && (tail_of g l == n)) (passes (head_of g l))
-        (and_both (by l) (tail_of g l == n) leaves.used (eq-eqb (tail_of g l) n leaves.begins)) pass)
+    (and_both (by l) (tail_of g l == n) leaves.used (eq-eqb (tail_of g l) n leaves.begins)) pass)
 
 pub within_leads : (g : Graph) (by : ℕ → Bool) (b k n : ℕ) → leads_within g by b k n ≡ true
     → (ls : List ℕ) × Leads g by n b ls × (length ls ≤ k)
 within_leads g by b zero n h = ([], eqb-true n b h, omega arith)
 within_leads g by b (suc k) n h =
     elim (or_cases (n == b) (is_half g n && goes_on g by n (leads_within g by b k)) h) [
-      inl here ↦ ([], eqb-true n b here, omega arith)
-    | inr on ↦
-        let parts = and_parts (is_half g n) (goes_on g by n (leads_within g by b k)) on in
-        let link = goes_on_gives g by n (leads_within g by b k) parts.1 in
-        let rest = within_leads g by b k (head_of g link.0) link.2 in
-        (link.0 ∷ rest.0, (parts.0, link.1, rest.1), omega arith)
+      | inl here ↦ ([], eqb-true n b here, omega arith)
+      | inr on ↦
+          let parts = and_parts (is_half g n) (goes_on g by n (leads_within g by b k)) on in
+          let link = goes_on_gives g by n (leads_within g by b k) parts.1 in
+          let rest = within_leads g by b k (head_of g link.0) link.2 in
+          (link.0 ∷ rest.0, (parts.0, link.1, rest.1), omega arith)
     ]
 
 pub leads_is_within : (g : Graph) (by : ℕ → Bool) (b : ℕ) (ls : List ℕ) (k n : ℕ) → Leads g by n b ls → length ls ≤ k
@@ -43,7 +43,7 @@ leads_is_within g by b [] (suc k) n leads few =
 leads_is_within g by b (l ∷ ls) zero n leads few = absurd (omega arith)
 leads_is_within g by b (l ∷ ls) (suc k) n leads few =
     let on : goes_on g by n (leads_within g by b k) ≡ true =
-      goes_on_from g by n (leads_within g by b k) l leads.1 (leads_is_within g by b ls k (head_of g l) leads.2 (omega arith)) in
+    goes_on_from g by n (leads_within g by b k) l leads.1 (leads_is_within g by b ls k (head_of g l) leads.2 (omega arith)) in
     or_right (n == b) (is_half g n && goes_on g by n (leads_within g by b k))
     (and_both (is_half g n) (goes_on g by n (leads_within g by b k)) leads.0 on)
 

@@ -1,13 +1,13 @@
 -- The test "begins a shortest path" is what it says, both ways.
-use Rattle.std.proofs.Common.{◌≡◌, ℕ, zero, suc, ◌+◌, ◌<◌, ◌≤◌, ◌==◌, Bool, true, false, ◌&&◌, ◌||◌, not, List, [], ◌∷◌, length, map, filter, All, refl, sym, ap, subst, ◌∙◌, true≢false, arith}
-use Rattle.pipe_base.specs.Graph.{Graph, IsGraph, tail_of, head_of, is_half, link_id, all_links, outs_of}
-use Rattle.pipe_base.specs.Path.{LeavesBy, Leads, IsPath}
-use Rattle.pipe_base.specs.Reach.{goes_on, leads_within}
-use Rattle.pipe_base.specs.ShortestRoute.{BeginsShortest, comes_within, begins_shortest, firsts_of}
+use Rattle.std.proofs.Common.{◌≡◌, ℕ, zero, suc, ◌+◌, ◌<◌, ◌≤◌, Bool, true, false, ◌&&◌, not, List, [], ◌∷◌, length, sym, ◌∙◌, true≢false, arith}
+use Rattle.pipe_base.specs.Graph.{Graph, IsGraph, tail_of, head_of}
+use Rattle.pipe_base.specs.Path.{IsPath}
+use Rattle.pipe_base.specs.Reach.{leads_within}
+use Rattle.pipe_base.specs.ShortestRoute.{BeginsShortest, comes_within, begins_shortest}
 use Rattle.pipe_paths.proofs.Tests.{and_parts, and_both, not_from, not_is, not_gives}
 use Rattle.pipe_paths.proofs.BelowLaws.{any_below_gives, any_below_from}
 use Rattle.pipe_paths.proofs.PathLaws.{path_end}
-use Rattle.pipe_paths.proofs.ReachLaws.{goes_on_gives, goes_on_from, within_leads, leads_is_within, AreAlike, goes_on_alike, leads_within_alike}
+use Rattle.pipe_paths.proofs.ReachLaws.{goes_on_gives, goes_on_from, within_leads, leads_is_within}
 use Rattle.pipe_paths.proofs.Rounds.{rounds_suffice}
 
 pub comes_gives : (g : Graph) (by : ℕ → Bool) (dst n k : ℕ) → comes_within g by dst n k ≡ true → (p : List ℕ) × IsPath g by n dst p × (length p ≤ k)
@@ -47,7 +47,7 @@ begins_gives g by n dst l lt begins h =
     }
 
 -- a shortest path has at most one link more than there are nodes
-rest_few : (g : Graph) (by : ℕ → Bool) (n dst l : ℕ) → IsGraph g → (is : BeginsShortest g by n dst l) → length is.rest ≤ g.nodes
+pub rest_few : (g : Graph) (by : ℕ → Bool) (n dst l : ℕ) → IsGraph g → (is : BeginsShortest g by n dst l) → length is.rest ≤ g.nodes
 rest_few g by n dst l graph is =
     let within = rounds_suffice g by dst (head_of g l) is.rest graph (path_end g by n dst (l ∷ is.rest) graph is.path) is.path.1 in
     let way = within_leads g by dst g.nodes (head_of g l) within in
@@ -58,10 +58,10 @@ pub begins_from : (g : Graph) (by : ℕ → Bool) (n dst l : ℕ) → IsGraph g 
 begins_from g by n dst l graph is =
     let few = rest_few g by n dst l graph is in
     let none : comes_within g by dst n (length is.rest) ≡ false =
-      not_from (comes_within g by dst n (length is.rest))
-        (λ h. let shorter = comes_gives g by dst n (length is.rest) h in let least = is.least shorter.0 shorter.1 in absurd (omega arith)) in
+    not_from (comes_within g by dst n (length is.rest))
+    (λ h. let shorter = comes_gives g by dst n (length is.rest) h in let least = is.least shorter.0 shorter.1 in absurd (omega arith)) in
     and_both (by l) _ is.path.0.used
     (any_below_from (is_count g by n dst l) (suc g.nodes) (length is.rest) (omega arith)
-        (and_both (leads_within g by dst (length is.rest) (head_of g l)) (not (comes_within g by dst n (length is.rest)))
-            (leads_is_within g by dst is.rest (length is.rest) (head_of g l) is.path.1 (omega arith))
-            (not_gives (comes_within g by dst n (length is.rest)) none)))
+    (and_both (leads_within g by dst (length is.rest) (head_of g l)) (not (comes_within g by dst n (length is.rest)))
+    (leads_is_within g by dst is.rest (length is.rest) (head_of g l) is.path.1 (omega arith))
+    (not_gives (comes_within g by dst n (length is.rest)) none)))

@@ -1,8 +1,8 @@
 -- In a mirrored graph a path by all links turns round.
-use Rattle.std.proofs.Common.{◌≡◌, ℕ, ◌+◌, ◌-◌, ◌%◌, ◌<◌, ◌≤◌, ◌==◌, Bool, true, false, if◌then◌else◌, List, [], ◌∷◌, length, nat_lt, inl, inr, refl, sym, ap, subst, ◌∙◌, true≢false, arith}
+use Rattle.std.proofs.Common.{◌≡◌, ℕ, ◌+◌, ◌-◌, ◌%◌, ◌<◌, ◌≤◌, ◌==◌, Bool, true, false, if◌then◌else◌, List, [], ◌∷◌, nat_lt, inl, inr, refl, sym, ap, subst, ◌∙◌, true≢false, arith}
 use Rattle.std.proofs.lemmas.Bool.{leb-true, le-leb, lt-ltb}
 use Rattle.std.proofs.lemmas.Bool.Decides.{eqb_tells}
-use Rattle.pipe_base.specs.Graph.{Graph, IsGraph, tail_of, head_of, is_half}
+use Rattle.pipe_base.specs.Graph.{Graph, IsGraph, head_of, is_half}
 use Rattle.pipe_base.specs.Path.{every_link, LeavesBy, Leads, IsPath}
 use Rattle.pipe_base.specs.Reach.{reaches}
 use Rattle.pipe_paths.specs.Mirror.{mirror_of, IsMirrored}
@@ -22,9 +22,9 @@ half_turns g n half = le-leb g.hosts (mirror_of g.hosts n) (at_least g.hosts n (
         pick true t is = le
         pick false true is = omega arith
         pick false false is = elim (eqb_tells ((m - hosts) % 2) 0) [
-            inl even ↦ absurd (true≢false (sym even.0 ∙ is))
+          | inl even ↦ absurd (true≢false (sym even.0 ∙ is))
           | inr odd ↦ let apart = odd.1 in omega arith
-          ]
+        ]
 
 -- the link that goes the other way
 back_leaves : (g : Graph) (mirrored : IsMirrored g) (n l : ℕ) (leaves : LeavesBy g every_link n l)

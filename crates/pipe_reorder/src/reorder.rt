@@ -1,15 +1,17 @@
 // The held messages of one service.
-ghost use Rattle.std.specs.Prelude.{◌≡◌, ◌++◌, length, OnOk, OnErr, ℕ, List, false};
-ghost use Rattle.pipe_base.specs.Messages.{Messages, IsInOrder, with_message, without_message, has_key, from_barrier, below_barrier, logged_of};
-ghost use Rattle.pipe_reorder.specs.Buffer.{Buffer, empty_buffer, AppendsSome};
+ghost use Rattle.std.specs.Prelude.{◌≡◌, ◌++◌, ℕ, List, length, false, IfOk, OnOk, OnErr};
+ghost use Rattle.pipe_base.specs.Messages.{IsInOrder, has_key, from_barrier, below_barrier, logged_of, AreBelow};
+ghost use Rattle.pipe_reorder.specs.Buffer.{Buffer, empty_buffer, buffer_with, buffer_without, passed_by, left_by};
+ghost use Rattle.pipe_reorder.specs.Buffer.{message_key, placed_fate, with_placed, AppendsSome};
 
-use pipe_base::{Body, Entry, Key, LoggedList, NoMemory, Service, Ts};
+use pipe_base::{Body, Entry, Fate, Key, LoggedList, Message, NoMemory, Service, Ts};
 use std::alloc::Global;
 use std::collections::BTreeMap;
 use std::marker::Model;
 
-/// The messages of a service that a host holds, and the barrier that passed last.
-#[derive(Drop)]
+/// The messages of a service that a host holds in the total order, and the barrier that passed
+/// last.
+#[derive(Clone, Debug, Drop)]
 pub struct Reorder {
     service: Service,
     barrier: Ts,
@@ -18,11 +20,11 @@ pub struct Reorder {
 
 impl Model for Reorder {
     ghost use Rattle.pipe_base.specs.Messages.{IsInOrder};
-    ghost use Rattle.pipe_reorder.specs.Buffer.{Buffer};
+    ghost use Rattle.pipe_reorder.specs.Buffer.{Buffer, buffer_of};
 
     ghost Value = { Buffer };
 
-    ghost view = { λ r. record { service = r.service; barrier = r.barrier.0; messages = r.held.entries } };
+    ghost view = { λ r. buffer_of r.service r.barrier r.held.entries };
 
     ghost invariant = { λ r. IsInOrder r.held.entries };
 }
@@ -54,6 +56,7 @@ impl Reorder {
         self.barrier
     }
 
+    /// Whether a message with this key is held.
     pub fn holds(&self, key: Key) -> bool
         ensures { result ≡ has_key key self.now.messages }
     {
@@ -62,35 +65,80 @@ impl Reorder {
 
     /// Holds a message, in the place of one with its key.
     pub fn hold(&mut self, key: Key, body: Body) -> Result<(), NoMemory>
-        ensures ok { OnOk result (self.new ≡ record self.old { messages = with_message key body self.old.messages }) }
+        ensures ok { OnOk result (self.new ≡ buffer_with key body self.old) }
         ensures err { OnErr result (self.new ≡ self.old) }
     {
         self.held.insert(key, body)?;
         Ok(())
     }
 
-    /// Holds the message with this key no more: the way back from a `hold` of a key that was not held. Takes no memory.
+    /// Holds the message with this key no more: the way back from a `hold` of a key that was not
+    /// held. Takes no memory.
     pub fn unhold(&mut self, key: Key)
-        ensures removes { self.new ≡ record self.old { messages = without_message key self.old.messages } }
-        ensures undoes { (messages : Messages) (body : List ℕ) → has_key key messages ≡ false → self.old.messages ≡ with_message key body messages → self.new.messages ≡ messages }
+        ensures removes { self.new ≡ buffer_without key self.old }
+        ensures undoes { (before : Buffer) (body : List ℕ) → has_key key before.messages ≡ false
+            → self.old ≡ buffer_with key body before → self.new ≡ before }
     {
         let _ = self.held.remove(&key);
     }
 
-    /// Appends the held messages below the barrier, in the total order. After `NoMemory` some of them were appended.
+    /// Gives a message of this service its fate, and holds it where that is `Held`.
+    pub fn place(&mut self, message: Message) -> Result<Fate, NoMemory>
+        ensures fate { IfOk result (λ fate. fate ≡ placed_fate (message_key message) self.old) }
+        ensures held { IfOk result (λ fate. self.new ≡ with_placed fate (message_key message) message.body self.old) }
+        ensures err { OnErr result (self.new ≡ self.old) }
+    {
+        let key = Key {
+            ts: message.ts,
+            src: message.src,
+        };
+        if key.ts.0 < self.barrier.0 {
+            return Ok(Fate::Late {
+                barrier: self.barrier,
+            });
+        }
+        if self.holds(key) {
+            return Ok(Fate::Repeat);
+        }
+        self.hold(key, message.body)?;
+        Ok(Fate::Held)
+    }
+
+    /// Appends the held messages below the barrier, in the total order. After `NoMemory` some
+    /// first ones of them were appended.
     pub fn copy_passed(&self, barrier: Ts, out: &mut LoggedList) -> Result<(), NoMemory>
-        ensures ok { OnOk result (out.new ≡ out.old ++ logged_of self.now.service (below_barrier barrier.0 self.now.messages)) }
-        ensures err { OnErr result (AppendsSome out.old (logged_of self.now.service (below_barrier barrier.0 self.now.messages)) out.new) }
+        ensures ok { OnOk result (out.new ≡ out.old ++ passed_by barrier.0 self.now) }
+        ensures early { OnOk result (AreBelow barrier.0 out.old → AreBelow barrier.0 out.new) }
+        ensures err { OnErr result (AppendsSome out.old (passed_by barrier.0 self.now) out.new) }
     {
         copy_below(&self.held, self.service, barrier, out)
     }
 
     /// Holds the messages below the barrier no more. Takes no memory.
     pub fn drop_passed(&mut self, barrier: Ts)
-        ensures { self.new ≡ record self.old { barrier = barrier.0; messages = from_barrier barrier.0 self.old.messages } }
+        ensures { self.new ≡ left_by barrier.0 self.old }
     {
         drop_below(&mut self.held, barrier);
         self.barrier = barrier;
+    }
+
+    pub fn try_clone(&self) -> Result<Reorder, NoMemory>
+        ensures { IfOk result (λ copy. copy ≡ self.now) }
+    {
+        Ok(self.clone()?)
+    }
+
+    /// Moves the messages below the barrier to the end of the log. After `NoMemory` all are still
+    /// held, and copies of some first ones were appended.
+    pub fn pass(&mut self, barrier: Ts, out: &mut LoggedList) -> Result<(), NoMemory>
+        ensures logged { OnOk result (out.new ≡ out.old ++ passed_by barrier.0 self.old) }
+        ensures left { OnOk result (self.new ≡ left_by barrier.0 self.old) }
+        ensures err { OnErr result (self.new ≡ self.old) }
+        ensures some { OnErr result (AppendsSome out.old (passed_by barrier.0 self.old) out.new) }
+    {
+        self.copy_passed(barrier, out)?;
+        self.drop_passed(barrier);
+        Ok(())
     }
 }
 
@@ -100,8 +148,10 @@ fn copy_below(
     barrier: Ts,
     out: &mut LoggedList,
 ) -> Result<(), NoMemory>
-    ensures ok { OnOk result (out.new ≡ out.old ++ logged_of service (below_barrier barrier.0 held.now.entries)) }
-    ensures err { OnErr result (AppendsSome out.old (logged_of service (below_barrier barrier.0 held.now.entries)) out.new) }
+    ensures ok { let passed = logged_of service (below_barrier barrier.0 held.now.entries) in
+        OnOk result (out.new ≡ out.old ++ passed) }
+    ensures err { let passed = logged_of service (below_barrier barrier.0 held.now.entries) in
+        OnErr result (AppendsSome out.old passed out.new) }
 {
     'entries: for (key, body) in held {
         if key.ts.0 >= barrier.0 {
@@ -118,9 +168,84 @@ fn drop_below(held: &mut BTreeMap<Key, Body>, barrier: Ts)
     ensures { held.new.entries ≡ from_barrier barrier.0 held.old.entries }
 {
     'entries: while let Some((key, _)) = held.first_key_value() {
-        if key.ts.0 >= barrier.0 {
+        if barrier.0 <= key.ts.0 {
             return;
         }
         let _ = held.pop_first();
+    }
+}
+
+#[cfg(test)]
+mod tests {
+    use super::*;
+    use pipe_base::{HostId, List};
+    use std::test::Fail;
+
+    fn message(alloc: Global, ts: u64, src: u16) -> Result<Message, NoMemory> {
+        Ok(Message {
+            service: Service::BestEffort,
+            src: HostId(src),
+            dst: HostId(9),
+            ts: Ts(ts),
+            body: Body::empty(alloc),
+        })
+    }
+
+    // The timestamps and senders that a barrier logs.
+    fn passed(
+        alloc: Global,
+        held: &mut Reorder,
+        barrier: u64,
+    ) -> Result<Vec<(u64, u16)>, NoMemory> {
+        let mut out = List::new(alloc);
+        held.pass(Ts(barrier), &mut out)?;
+        let mut keys = Vec::new(alloc);
+        for (_, entry) in out.as_slice() {
+            keys.push((entry.key.ts.0, entry.key.src.0))?;
+        }
+        Ok(keys)
+    }
+
+    // A message is logged once the barrier is above its timestamp, by timestamp and then by sender.
+    #[test]
+    fn logs_in_the_total_order(rt: HostRuntime) -> Result<(), Fail> {
+        let mut held = Reorder::new(rt.alloc(), Service::BestEffort);
+        for (ts, src, fate) in [
+            (105, 1, Fate::Held),
+            (103, 2, Fate::Held),
+            (105, 0, Fate::Held),
+            (101, 3, Fate::Held),
+            (105, 1, Fate::Repeat),
+        ] {
+            assert_eq!(rt; held.place(message(rt.alloc(), ts, src)?)?, fate);
+        }
+        let logged = passed(rt.alloc(), &mut held, 105)?;
+        assert_eq!(rt; logged.as_slice(), [(101, 3), (103, 2)].as_slice());
+        assert_eq!(rt; (held.len(), held.barrier()), (2, Ts(105)));
+        let late = Fate::Late { barrier: Ts(105) };
+        assert_eq!(rt; held.place(message(rt.alloc(), 104, 2)?)?, late);
+        assert_eq!(rt; held.place(message(rt.alloc(), 105, 2)?)?, Fate::Held);
+        let logged = passed(rt.alloc(), &mut held, 106)?;
+        assert_eq!(rt;
+            logged.as_slice(),
+            [(105, 0), (105, 1), (105, 2)].as_slice()
+        );
+        assert_eq!(rt; held.len(), 0);
+        Ok(())
+    }
+
+    #[test]
+    fn undoes_a_hold(rt: HostRuntime) -> Result<(), Fail> {
+        let key = Key {
+            ts: Ts(7),
+            src: HostId(1),
+        };
+        let mut held = Reorder::new(rt.alloc(), Service::BestEffort);
+        held.hold(key, Body::empty(rt.alloc()))?;
+        assert!(rt; held.holds(key));
+        held.unhold(key);
+        assert!(rt; !held.holds(key));
+        assert_eq!(rt; held.len(), 0);
+        Ok(())
     }
 }

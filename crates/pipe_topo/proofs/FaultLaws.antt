@@ -1,9 +1,9 @@
 -- What the first fault says: the first pair that is apart; and a plan without a fault joins all hosts.
-use Rattle.std.proofs.Common.{◌≡◌, ℕ, ◌+◌, ◌<◌, ◌≤◌, nat_le, ◌&&◌, not, Bool, true, false, List, [], ◌∷◌, length, replicate, get_or, Option, None, Some, is_some, option_map, inl, inr, refl, sym, ap, subst, ◌∙◌, true≢false, arith}
+use Rattle.std.proofs.Common.{◌≡◌, ℕ, ◌<◌, ◌≤◌, ◌&&◌, not, Bool, true, false, List, length, replicate, Option, None, Some, is_some, option_map, inl, inr, refl, sym, ap, ◌∙◌, true≢false, arith}
 use Rattle.std.proofs.lemmas.Bool.{le-leb}
 use Rattle.std.proofs.lemmas.Bool.Decides.{leb_tells}
 use Rattle.std.proofs.lemmas.List.{get_or-replicate}
-use Rattle.pipe_base.specs.Graph.{Graph, IsGraph}
+use Rattle.pipe_base.specs.Graph.{Graph}
 use Rattle.pipe_base.specs.Path.{every_link}
 use Rattle.pipe_base.specs.Reach.{reaches, JoinsAllHosts}
 use Rattle.pipe_paths.proofs.ReachLaws.{AreAlike, reaches_alike}
@@ -41,6 +41,7 @@ none_apart g none a b a_lt b_lt = first_none (is_apart g a) g.hosts b (nothing (
     nothing : (o : Option ℕ) → is_some o ≡ false → o ≡ None
     nothing None h = refl
     nothing (Some k) h = absurd (true≢false h)
+
     no_host : first_below (λ (k : ℕ). is_some (apart_from g k)) g.hosts ≡ None
     no_host = pick (first_below (λ (k : ℕ). is_some (apart_from g k)) g.hosts) refl
       where
@@ -63,10 +64,10 @@ not_apart g a b isnt le = pick (reaches g every_link a b) refl
 pub no_apart_joins : (plan : Plan) → IsPlan plan → apart_fault (graph_of plan) ≡ None → JoinsAllHosts (graph_of plan)
 no_apart_joins plan is none a b a_lt b_lt =
     elim (leb_tells a b) [
-      inl le ↦ not_apart (graph_of plan) a b (none_apart (graph_of plan) none a b a_lt b_lt) le.1
-    | inr gt ↦
-        reach_turns (graph_of plan) (plan_is_graph plan is) (plan_mirrored plan is) b a b_lt a_lt
-        (not_apart (graph_of plan) b a (none_apart (graph_of plan) none b a b_lt a_lt) (omega (arith, gt.1)))
+      | inl le ↦ not_apart (graph_of plan) a b (none_apart (graph_of plan) none a b a_lt b_lt) le.1
+      | inr gt ↦
+          reach_turns (graph_of plan) (plan_is_graph plan is) (plan_mirrored plan is) b a b_lt a_lt
+          (not_apart (graph_of plan) b a (none_apart (graph_of plan) none b a b_lt a_lt) (omega (arith, gt.1)))
     ]
 
 no_apart_fault : (shape apart : Option TopoFault) → first_of shape apart ≡ None → apart ≡ None

@@ -1,5 +1,5 @@
 -- Lemmas on the least number that passes a test.
-use Rattle.std.proofs.Common.{◌≡◌, ℕ, zero, suc, ◌+◌, ◌<◌, ◌≤◌, Bool, true, false, if◌then◌else◌, Option, None, Some, inl, inr, refl, sym, ap, subst, ◌∙◌, true≢false, arith}
+use Rattle.std.proofs.Common.{◌≡◌, ℕ, zero, suc, ◌+◌, ◌<◌, Bool, true, false, if◌then◌else◌, Option, None, Some, inl, inr, refl, sym, subst, ◌∙◌, arith}
 use Rattle.std.proofs.lemmas.Bool.Decides.{eqb_tells}
 use Rattle.pipe_topo.specs.First.{first_of, first_below}
 
@@ -17,8 +17,8 @@ pub first_at : (p : ℕ → Bool) (n k : ℕ) → k < n → first_below p k ≡ 
 first_at p zero k lt none is = absurd (omega arith)
 first_at p (suc n) k lt none is =
     elim (eqb_tells k n) [
-      inl same ↦ subst (λ (m : ℕ). first_below p (suc m) ≡ Some k) same.1 (rw (none, is) refl)
-    | inr other ↦ let apart = other.1 in rw (first_at p n k (omega arith) none is) refl
+      | inl same ↦ subst (λ (m : ℕ). first_below p (suc m) ≡ Some k) same.1 (rw (none, is) refl)
+      | inr other ↦ let apart = other.1 in rw (first_at p n k (omega arith) none is) refl
     ]
 
 -- no number below the bound passes
@@ -30,8 +30,8 @@ first_none p (suc n) k none lt = pick (λ before below. first_none p n k before 
         → first_below p n ≡ before → p n ≡ here → first_of before (if here then Some n else None) ≡ None → p k ≡ false
     pick earlier None false none_before isnt h =
         elim (eqb_tells k n) [
-          inl same ↦ subst (λ (m : ℕ). p m ≡ false) (sym same.1) isnt
-        | inr other ↦ let apart = other.1 in earlier none_before (omega arith)
+          | inl same ↦ subst (λ (m : ℕ). p m ≡ false) (sym same.1) isnt
+          | inr other ↦ let apart = other.1 in earlier none_before (omega arith)
         ]
     pick earlier None true none_before is h = cc
     pick earlier (Some m) here some_before is h = cc

@@ -1,7 +1,9 @@
+pub mod DigitLaws
 pub mod FaultLaws
 pub mod FirstLaws
 pub mod LinkLaws
 pub mod MirrorLaws
+pub mod NameLaws
 pub mod ReachLaws
 pub mod TableLaws
 pub mod WalkLaws

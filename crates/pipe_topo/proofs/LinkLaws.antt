@@ -1,14 +1,14 @@
 -- Lemmas on the links of a plan: they are few, and join nodes of its graph.
-use Rattle.std.proofs.Common.{◌≡◌, ℕ, ◌+◌, ◌*◌, ◌<◌, ◌≤◌, Bool, true, false, List, [], ◌∷◌, ◌++◌, length, map, get_or, All, refl, sym, ap, subst, ◌∙◌, arith, append_assoc, length-append}
+use Rattle.std.proofs.Common.{◌≡◌, ℕ, ◌+◌, ◌*◌, ◌<◌, Bool, true, false, List, [], ◌∷◌, ◌++◌, length, map, All, refl, sym, ap, ◌∙◌, arith, append_assoc, length-append}
 use Rattle.std.specs.List.{flat_map, range_with_len}
-use Rattle.std.proofs.lemmas.List.Elements.{All-nil, All-cons, All-tail, All-head, All-append, All-map, All-get_or, All-from_get_or}
+use Rattle.std.proofs.lemmas.List.Elements.{All-nil, All-cons, All-tail, All-head, All-append, All-map, All-from_get_or}
 use Rattle.std.proofs.lemmas.List.FromFn.{map-range_with_len_more, get_or-range_with_len, length-range_with_len, length-map-range_with_len}
 use Rattle.pipe_base.specs.declared.name.Link.{Link}
-use Rattle.pipe_base.specs.Graph.{Graph, IsGraph, no_link}
+use Rattle.pipe_base.specs.Graph.{IsGraph, no_link}
 use Rattle.pipe_topo.specs.declared.plan.CableEnd.{CableEnd}
 use Rattle.pipe_topo.specs.declared.plan.CableEnd.TheVariants.{Host, Switch}
 use Rattle.pipe_topo.specs.declared.plan.Plan.{Plan}
-use Rattle.pipe_topo.specs.Plan.{up_node, down_node, joined, rises, lower_first, links_between, cable_links, loop_of, plan_links, graph_of, IsEnd, HasEnds, IsPlan}
+use Rattle.pipe_topo.specs.Plan.{up_node, down_node, joined, rises, lower_first, cable_links, loop_of, plan_links, graph_of, IsEnd, HasEnds, IsPlan}
 use Rattle.pipe_topo.specs.Tables.{IsNetwork}
 
 -- one loop more
@@ -66,10 +66,10 @@ loops_between : (hosts switches : ℕ) → All (IsBetween (hosts + 2 * switches)
 loops_between hosts switches =
     All-map (IsBetween (hosts + 2 * switches)) (loop_of hosts) (range_with_len 0 switches)
     (All-from_get_or (λ (s : ℕ). IsBetween (hosts + 2 * switches) (loop_of hosts s)) (range_with_len 0 switches) 0
-        (λ i lt.
-          let size = length-range_with_len 0 switches in
-          let at = get_or-range_with_len 0 switches i 0 (omega arith) in
-          (omega arith, omega arith)))
+    (λ i lt.
+    let size = length-range_with_len 0 switches in
+    let at = get_or-range_with_len 0 switches i 0 (omega arith) in
+    (omega arith, omega arith)))
 
 pub links_between_nodes : (plan : Plan) → IsPlan plan → All (IsBetween (plan.hosts + 2 * length plan.levels)) (plan_links plan.hosts plan.levels plan.cables)
 links_between_nodes plan is =
@@ -85,21 +85,25 @@ cable_link_count hosts levels (c ∷ cs) =
 -- two links a cable and one a switch
 pub link_count : (hosts : ℕ) (levels : List ℕ) (cables : List (CableEnd × CableEnd)) → length (plan_links hosts levels cables) ≡ 2 * length cables + length levels
 link_count hosts levels cables =
-    omega (arith, length-append (flat_map (cable_links hosts levels) cables) (map (loop_of hosts) (range_with_len 0 (length levels))),
-      cable_link_count hosts levels cables, length-map-range_with_len (loop_of hosts) 0 (length levels))
+    omega (
+      arith,
+      length-append (flat_map (cable_links hosts levels) cables) (map (loop_of hosts) (range_with_len 0 (length levels))),
+      cable_link_count hosts levels cables,
+      length-map-range_with_len (loop_of hosts) 0 (length levels),
+    )
 
 pub plan_is_graph : (plan : Plan) → IsPlan plan → IsGraph (graph_of plan)
 plan_is_graph plan is = record {
-    hosts_in = omega arith;
-    tails_in = λ l lt. (links_between_nodes plan is l no_link lt).0;
-    heads_in = λ l lt. (links_between_nodes plan is l no_link lt).1;
-  }
+  hosts_in = omega arith;
+  tails_in = λ l lt. (links_between_nodes plan is l no_link lt).0;
+  heads_in = λ l lt. (links_between_nodes plan is l no_link lt).1;
+}
 
 pub plan_is_network : (plan : Plan) → IsPlan plan → IsNetwork (graph_of plan) (length plan.levels)
 plan_is_network plan is = record {
-    joined = plan_is_graph plan is;
-    halves = refl;
-    few_hosts = is.small.few_hosts;
-    few_switches = is.small.few_switches;
-    few_links = let count = link_count plan.hosts plan.levels plan.cables in omega (arith, count, is.small.few_cables, is.small.few_switches);
-  }
+  joined = plan_is_graph plan is;
+  halves = refl;
+  few_hosts = is.small.few_hosts;
+  few_switches = is.small.few_switches;
+  few_links = let count = link_count plan.hosts plan.levels plan.cables in omega (arith, count, is.small.few_cables, is.small.few_switches);
+}

@@ -1,18 +1,17 @@
 -- The graph of a plan is mirrored: each link of it, turned round, is a link of it.
-use Rattle.std.proofs.Common.{◌≡◌, ℕ, ◌+◌, ◌*◌, ◌-◌, ◌%◌, ◌<◌, ◌≤◌, ◌==◌, nat_lt, if◌then◌else◌, Bool, true, false, List, [], ◌∷◌, ◌++◌, length, map, get_or, All, Contains, inl, inr, refl, sym, ap, subst, ◌∙◌, true≢false, arith}
+use Rattle.std.proofs.Common.{◌≡◌, ℕ, ◌+◌, ◌*◌, ◌-◌, ◌%◌, ◌<◌, ◌==◌, nat_lt, if◌then◌else◌, Bool, true, false, List, [], ◌∷◌, ◌++◌, length, map, get_or, All, Contains, refl, sym, ap, subst, ◌∙◌, true≢false, arith}
 use Rattle.std.specs.List.{flat_map, range_with_len}
 use Rattle.std.proofs.lemmas.Bool.{lt-ltb, ltb-true, eq-eqb, eqb-true}
-use Rattle.std.proofs.lemmas.Bool.Decides.{eqb_tells, leb_tells}
 use Rattle.std.proofs.lemmas.List.{get_or_default}
-use Rattle.std.proofs.lemmas.List.Elements.{All-nil, All-cons, All-head, All-tail, All-append, All-weaker, All-contains_itself, Contains-append_left, Contains-append_right, Contains-get_or}
+use Rattle.std.proofs.lemmas.List.Elements.{All-nil, All-cons, All-head, All-tail, All-append, All-weaker, Contains-append_left, Contains-append_right, Contains-get_or}
 use Rattle.std.proofs.lemmas.List.FromFn.{get_or-map-range_with_len, length-map-range_with_len}
 use Rattle.pipe_base.specs.declared.name.Link.{Link}
-use Rattle.pipe_base.specs.Graph.{Graph, tail_of, head_of, no_link}
+use Rattle.pipe_base.specs.Graph.{no_link}
 use Rattle.pipe_paths.specs.Mirror.{mirror_of, IsMirrored}
 use Rattle.pipe_topo.specs.declared.plan.CableEnd.{CableEnd}
 use Rattle.pipe_topo.specs.declared.plan.CableEnd.TheVariants.{Host, Switch}
 use Rattle.pipe_topo.specs.declared.plan.Plan.{Plan}
-use Rattle.pipe_topo.specs.Plan.{up_node, down_node, joined, lower_first, links_between, cable_links, loop_of, plan_links, graph_of, IsEnd, HasEnds, IsPlan}
+use Rattle.pipe_topo.specs.Plan.{up_node, down_node, joined, lower_first, cable_links, loop_of, graph_of, IsEnd, HasEnds, IsPlan}
 use Rattle.pipe_topo.proofs.LinkLaws.{lower_ends}
 
 -- the mirror of a host, of an up half and of a down half
@@ -83,9 +82,9 @@ cables_turn hosts switches levels (c ∷ cs) ends =
     let P : Link → Type 0 = λ (l : Link). Contains (front ++ back) (turned hosts l) in
     All-append P front back
     (All-weaker (λ (l : Link). Contains front (turned hosts l)) P (λ l in_front. Contains-append_left front back (turned hosts l) in_front) front
-        (cable_turns hosts switches levels c here.0 here.1))
+    (cable_turns hosts switches levels c here.0 here.1))
     (All-weaker (λ (l : Link). Contains back (turned hosts l)) P (λ l in_back. Contains-append_right front back (turned hosts l) in_back) back
-        (cables_turn hosts switches levels cs rest))
+    (cables_turn hosts switches levels cs rest))
 
 loops_turn : (hosts switches : ℕ) → TurnsIn hosts (map (loop_of hosts) (range_with_len 0 switches)) (map (loop_of hosts) (range_with_len 0 switches))
 loops_turn hosts switches k d lt =
@@ -102,14 +101,14 @@ links_turn plan is =
     let P : Link → Type 0 = λ (l : Link). Contains (front ++ back) (turned plan.hosts l) in
     All-append P front back
     (All-weaker (λ (l : Link). Contains front (turned plan.hosts l)) P (λ l in_front. Contains-append_left front back (turned plan.hosts l) in_front) front
-        (cables_turn plan.hosts (length plan.levels) plan.levels plan.cables is.ends))
+    (cables_turn plan.hosts (length plan.levels) plan.levels plan.cables is.ends))
     (All-weaker (λ (l : Link). Contains back (turned plan.hosts l)) P (λ l in_back. Contains-append_right front back (turned plan.hosts l) in_back) back
-        (loops_turn plan.hosts (length plan.levels)))
+    (loops_turn plan.hosts (length plan.levels)))
 
 pub plan_mirrored : (plan : Plan) → IsPlan plan → IsMirrored (graph_of plan)
 plan_mirrored plan is l lt =
     let link = get_or (graph_of plan).links l no_link in
     let found = links_turn plan is l no_link lt in
     let read : get_or (graph_of plan).links found.0 no_link ≡ turned plan.hosts link =
-      get_or_default (graph_of plan).links found.0 no_link (turned plan.hosts link) found.1 ∙ found.2 in
+    get_or_default (graph_of plan).links found.0 no_link (turned plan.hosts link) found.1 ∙ found.2 in
     (found.0, found.1, ap (λ (k : Link). k.tail.0) read, ap (λ (k : Link). k.head.0) read)

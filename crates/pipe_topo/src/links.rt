@@ -65,4 +65,13 @@ impl LinkSet {
     {
         self.links[usize::from(link.0)]
     }
+
+    /// The links that are not in the set.
+    pub fn rest(&self) -> Result<LinkSet, NoMemory>
+        ensures { IfOk result (λ set. set ≡ map not self.now) }
+    {
+        let alloc = *self.links.allocator();
+        let links = self.links.iter().map(|has| !*has).collect(alloc)?;
+        Ok(LinkSet { links })
+    }
 }

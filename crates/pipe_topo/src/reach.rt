@@ -6,8 +6,7 @@ ghost use Rattle.pipe_base.specs.Reach.{feeds, reaches};
 ghost use Rattle.pipe_topo.specs.Sets.{has};
 ghost use Rattle.pipe_topo.specs.Walk.{leads_near};
 
-use crate::walk::{FAR, distances, entry};
-use crate::{LinkSet, Topology};
+use crate::{Distances, FAR, LinkSet, Topology};
 use pipe_base::{HostId, LinkId, NoMemory, NodeId};
 use std::alloc::Global;
 
@@ -25,7 +24,7 @@ impl Topology {
         requires links { length by.now ≡ length self.now.links }
         ensures { IfOk result (λ yes. yes ≡ reaches self.now (has by.now) from.0 to.0) }
     {
-        let away = distances(alloc, self, to, by)?;
+        let away = Distances::to(alloc, self, to, by)?;
         Ok(goes_on(self, by, from, &away))
     }
 
@@ -55,7 +54,7 @@ impl Topology {
 }
 
 // A link of the set leads from the node to one that is not far.
-fn goes_on(topology: &Topology, by: &LinkSet, from: NodeId, away: &[u16]) -> bool
+fn goes_on(topology: &Topology, by: &LinkSet, from: NodeId, away: &Distances) -> bool
     requires from { from.0 < topology.now.nodes }
     requires links { length by.now ≡ length topology.now.links }
     requires size { length away.now ≡ topology.now.nodes }
@@ -67,11 +66,11 @@ fn goes_on(topology: &Topology, by: &LinkSet, from: NodeId, away: &[u16]) -> boo
         .any(|link| leads_near(topology, by, *link, away))
 }
 
-fn leads_near(topology: &Topology, by: &LinkSet, link: LinkId, away: &[u16]) -> bool
+fn leads_near(topology: &Topology, by: &LinkSet, link: LinkId, away: &Distances) -> bool
     requires link { link.0 < length topology.now.links }
     requires links { length by.now ≡ length topology.now.links }
     requires size { length away.now ≡ topology.now.nodes }
     ensures { result ≡ leads_near topology.now (has by.now) away.now link.0 }
 {
-    by.has(link) && entry(away, topology.head(link)) < FAR
+    by.has(link) && away.of(topology.head(link)) < FAR
 }

@@ -8,7 +8,9 @@ ghost use Rattle.pipe_topo.specs.Plan.{IsSmall, level_of, lower_first, rises};
 use crate::{Cable, CableEnd, TopoFault, What};
 
 const HOST_LIMIT: usize = 64;
+
 const SWITCH_LIMIT: usize = 64;
+
 const CABLE_LIMIT: usize = 512;
 
 // The first fault by hosts, switches and cables alone.

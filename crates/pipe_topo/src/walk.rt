@@ -4,16 +4,13 @@ ghost use Rattle.pipe_base.specs.Graph.{IsGraph};
 ghost use Rattle.pipe_topo.specs.Sets.{has};
 ghost use Rattle.pipe_topo.specs.Walk.{IsDistances, IsWalk, LooksAlong, away_of, far};
 
-use crate::{LinkSet, Topology};
+use crate::{FAR, LinkSet, Topology};
 use pipe_base::{LinkId, NoMemory, NodeId};
 use std::alloc::Global;
 use std::collections::VecDeque;
 
-/// The distance of a node from which no links lead on.
-pub const FAR: u16 = u16::MAX;
-
-/// For each node how many links of the set lead on from it to `to`, at least, or `FAR`: each of them begins at a half.
-pub fn distances(
+// For each node how many links of the set lead on from it to `to`, at least, or `FAR`.
+pub fn walk_back(
     alloc: Global,
     topology: &Topology,
     to: NodeId,

@@ -1,4 +1,4 @@
-use Rattle.std.proofs.Common.{◌≡◌, ◌+◌, ◌++◌, map, take, drop, None}
+use Rattle.std.proofs.Common.{◌≡◌, ◌++◌, map, take, drop, None}
 use Rattle.pipe_base.specs.declared.packet.Plane.TheVariants.{BestEffort, Commit}
 use Rattle.pipe_barrier.specs.Register.{register_after, least_from}
 use Rattle.pipe_barrier.proofs.registers.change_all.Given as goal

@@ -1,4 +1,3 @@
-use Rattle.std.proofs.Common.{◌++◌}
 use Rattle.std.specs.List.{flat_map}
 use Rattle.pipe_topo.specs.Plan.{cable_links, loop_of}
 use Rattle.pipe_topo.proofs.LinkLaws.{loops_more}

@@ -1,4 +1,4 @@
-use Rattle.std.proofs.Common.{◌≡◌, ℕ, ◌+◌, ◌*◌, length, ap}
+use Rattle.std.proofs.Common.{ℕ, ◌+◌, ◌*◌, length, ap}
 use Rattle.pipe_topo.proofs.TableLaws.{made_few, made_heads, made_tails, made_tables}
 use Rattle.pipe_topo.proofs.tables.topology_of.Goals as goal
 

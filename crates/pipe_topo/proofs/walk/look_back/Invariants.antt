@@ -1,4 +1,4 @@
-use Rattle.std.proofs.Common.{◌≡◌, ℕ, ◌+◌, ◌≤◌, ◌∷◌, length, sum, take}
+use Rattle.std.proofs.Common.{ℕ, ◌+◌, ◌≤◌, ◌∷◌, length, sum, take}
 use Rattle.pipe_topo.specs.Sets.{has}
 use Rattle.pipe_topo.specs.Walk.{IsWalk}
 use Rattle.pipe_topo.proofs.WalkLaws.{IsLooking}

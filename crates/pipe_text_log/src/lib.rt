@@ -1,0 +1,5 @@
+//! The text of the logs of a trace.
+#![tactic(auto)]
+
+mod collect;
+mod print;

@@ -1,0 +1,85 @@
+// The logs as text.
+ghost use Rattle.std.specs.Prelude.{◌≡◌, ◌++◌, ◌<◌, ℕ, List, length, reverse, IfOk, OnOk};
+ghost use Rattle.pipe_base.specs.Graph.{Graph};
+ghost use Rattle.pipe_model.specs.declared.record.Record.{Record};
+ghost use Rattle.pipe_text_log.specs.Collected.{entries, graph_with, AreLogs, AreLogsOf};
+ghost use Rattle.pipe_text_log.specs.LogText.{name_of, service_text, host_text, hosts_text, log_text};
+
+use crate::collect::{Log, collect};
+use pipe_base::{Entry, Link, List, NoMemory, Service};
+use pipe_model::Trace;
+use pipe_text::{print_log_head, print_log_line};
+use pipe_topo::Names;
+use std::alloc::Global;
+
+/// A text, as its bytes.
+pub type Text = List<u8>;
+
+fn name_of(names: &Names, host: u16) -> &str
+    ensures { result.now ≡ name_of names.now host }
+{
+    if host < names.len() {
+        names.name(host)
+    } else {
+        ""
+    }
+}
+
+fn print_service(
+    out: &mut Vec<u8>,
+    names: &Names,
+    host: u16,
+    service: Service,
+    log: &[&Entry],
+) -> Result<(), NoMemory>
+    ensures { OnOk result (out.new.items ≡ out.old.items ++ service_text names.now host service (entries log.now)) }
+{
+    print_log_head(out, name_of(names, host), service, log.len())?;
+    'entries: for entry in log {
+        print_log_line(
+            out,
+            entry.key.ts,
+            name_of(names, entry.key.src.0),
+            entry.body.bytes(),
+        )?;
+    }
+    Ok(())
+}
+
+fn print_host(out: &mut Vec<u8>, names: &Names, host: u16, log: &Log<'_>) -> Result<(), NoMemory>
+    ensures { OnOk result ((graph : Graph) (past : List Record) → AreLogsOf graph past host log.now → out.new.items ≡ out.old.items ++ host_text names.now graph past host) }
+{
+    print_service(out, names, host, Service::BestEffort, log.best.as_slice())?;
+    print_service(out, names, host, Service::Reliable, log.reliable.as_slice())
+}
+
+fn print_hosts(
+    out: &mut Vec<u8>,
+    names: &Names,
+    hosts: u16,
+    all: &[Log<'_>],
+) -> Result<(), NoMemory>
+    requires { length all.now ≡ hosts }
+    ensures { OnOk result ((graph : Graph) (past : List Record) → AreLogs graph hosts past all.now → out.new.items ≡ out.old.items ++ hosts_text names.now graph past hosts) }
+{
+    'hosts: for host in 0..hosts {
+        print_host(out, names, host, &all[usize::from(host)])?;
+    }
+    Ok(())
+}
+
+/// The logs of all hosts over a trace of a network with so many hosts and these links, in one pass over the trace.
+pub fn print_logs(
+    alloc: Global,
+    names: &Names,
+    hosts: u16,
+    links: &[Link],
+    trace: &Trace,
+) -> Result<Text, NoMemory>
+    ensures { IfOk result (λ text. (graph : Graph) → graph.hosts ≡ hosts → graph.links ≡ links.now → text ≡ log_text names.now graph (reverse trace.now)) }
+{
+    let all = collect(alloc, links, hosts, trace)?;
+    let mut out = Vec::new(alloc);
+    print_hosts(&mut out, names, hosts, &all)?;
+    Ok(List::from_vec(out))
+}

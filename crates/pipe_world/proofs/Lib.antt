@@ -1,0 +1,10 @@
+pub mod Lists
+pub mod NodeSteps
+pub mod Passing
+pub mod RunLaws
+pub mod StarGraph
+pub mod Tables
+pub mod WaitingLists
+pub mod Ways
+pub mod Works
+pub mod WorldSteps

@@ -1,0 +1,16 @@
+-- The laws of every run, as the world hands them out.
+use Rattle.std.proofs.Common.{List}
+use Rattle.pipe_base.specs.Graph.{Graph}
+use Rattle.pipe_model.specs.declared.record.Record.{Record}
+use Rattle.pipe_model.specs.Acting.{own}
+use Rattle.pipe_model.specs.Order.{AreLogsOrdered, AreStampsCausal}
+use Rattle.pipe_model.specs.Run.{IsHistory}
+use Rattle.pipe_model.proofs.Own.{node_history}
+use Rattle.pipe_model_node.proofs.Causal.{node_causal}
+use Rattle.pipe_model_node.proofs.Ordered.{node_ordered}
+
+pub run_ordered : (graph : Graph) (past : List Record) → IsHistory graph past → AreLogsOrdered graph past
+run_ordered graph past run = λ host known service. node_ordered service graph host (own graph host past) (node_history graph host past run)
+
+pub run_causal : (graph : Graph) (past : List Record) → IsHistory graph past → AreStampsCausal graph past
+run_causal graph past run = λ host known. node_causal graph host (own graph host past) (node_history graph host past run)

@@ -1,0 +1,21 @@
+use Rattle.std.proofs.Common.{rules, ◌≡◌, List, get_or, sym, subst, ap, ◌∙◌}
+use Rattle.std.proofs.lemmas.List.{get_or_push}
+use Rattle.pipe_base.specs.declared.name.LinkId.{LinkId}
+use Rattle.pipe_base.specs.declared.packet.Packet.{Packet}
+use Rattle.pipe_model.specs.declared.record.Record.{Record}
+use Rattle.pipe_world.specs.Queues.{HavePut, HasLeft}
+use Rattle.pipe_world.proofs.WaitingLists.{entered}
+use Rattle.pipe_world.proofs.enter.enter.Goals as goal
+
+pub returns-in-Ok-clause-queues_ok : goal.returns-in-Ok-clause-queues_ok
+returns-in-Ok-clause-queues_ok c = λ graph past stands.
+    let read : c.index-as_slice-at.result ≡ c.args.«record» =
+    c.index-as_slice-at.is
+    ∙ ap (λ (rs : List Record). get_or rs c.len-at.result c.index-as_slice-at.result) (c.as_slice-in-Ok.ensures ∙ c.in-Ok.ensures.ok)
+    ∙ get_or_push c.args.trace.now c.args.«record» c.index-as_slice-at.result c.len-at.result (sym c.len-at.ensures) in
+    let put : HavePut c.args.queues.now c.as_slice.result.now c.put_all.new.queues = search rules in
+    entered graph past c.args.«record» c.args.queues.now c.put_all.new.queues c.take_out.new.queues
+    (subst (λ (ps : List (LinkId × Packet)). HavePut c.args.queues.now ps c.put_all.new.queues) c.as_slice.ensures put)
+    c.requires.in_place
+    (subst (λ (r : Record). HasLeft r.event r.step.outcome c.put_all.new.queues c.take_out.new.queues) read c.take_out.ensures)
+    stands

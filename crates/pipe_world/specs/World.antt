@@ -1,0 +1,109 @@
+-- What the world is seen as, what it keeps, and what an event adds.
+use Rattle.std.specs.Prelude.{◌≡◌, ◌≢◌, ℕ, ◌<◌, nat_lt, Bool, true, false, List, [], ◌∷◌, ◌++◌, length, reverse, slice_get, slice_index_or}
+use Rattle.pipe_base.specs.declared.name.NodeId.{NodeId}
+use Rattle.pipe_base.specs.declared.packet.Packet.{Packet}
+use Rattle.pipe_base.specs.declared.step.Outcome.{Outcome}
+use Rattle.pipe_base.specs.declared.step.Outcome.TheVariants.{Ok}
+use Rattle.pipe_base.specs.Graph.{Graph, IsGraph, head_of}
+use Rattle.pipe_base.specs.Step.{quiet_step}
+use Rattle.pipe_model.specs.declared.event.Event.{Event}
+use Rattle.pipe_model.specs.declared.event.Event.TheVariants.{Send, Tick, Take, Lose, ControlTake, ControlLose, Decide, Crash, Cut}
+use Rattle.pipe_model.specs.declared.record.Record.{Record}
+use Rattle.pipe_model.specs.declared.record.Took.TheVariants.{Nothing}
+use Rattle.pipe_model.specs.Acting.{is_own, own}
+use Rattle.pipe_model.specs.Clock.{send_outcome}
+use Rattle.pipe_model.specs.Outcome.{took_at}
+use Rattle.pipe_model.specs.Run.{IsHistory, IsStep}
+use Rattle.pipe_world.specs.declared.node.Node.{Node}
+use Rattle.pipe_world.specs.declared.work.Work.{Work}
+use Rattle.pipe_world.specs.Node as node
+use Rattle.pipe_world.specs.Queues as queues
+
+-- a world: its network and all that has happened, the oldest record first
+pub record GraphAndTrace : Type 0 where
+  pub graph : Graph
+  pub trace : List Record
+
+-- what is kept is what the rules say after the history, and the history is one
+pub record Keeps (graph : Graph) (nodes : List Node) (lists : List (List Packet)) (past : List Record) : Type 0 where
+  pub is_graph : IsGraph graph
+  pub count : length nodes ≡ graph.nodes
+  pub nodes_are : (n : ℕ) (d : Node) → n < graph.nodes → node.Stands graph n (own graph n past) (slice_index_or nodes n d)
+  pub queues_are : queues.Stand graph lists past
+  pub rules : IsHistory graph past
+
+abbrev pub Stands : Graph → List Node → List (List Packet) → List Record → Type 0
+Stands graph nodes lists trace = Keeps graph nodes lists (reverse trace)
+
+-- one record of the event was appended
+pub record AddsEvent (old new : List Record) (event : Event) : Type 0 where
+  pub added : Record
+  pub appended : new ≡ old ++ added ∷ []
+  pub event_is : added.event ≡ event
+
+-- something waits at the place that the event names, if it names one
+abbrev pub is_there : List (List Packet) → Event → Bool
+is_there lists (Send host service now dests) = true
+is_there lists (Tick n now) = true
+is_there lists (Take link place keep) = nat_lt place (length (slice_index_or lists link.0 []))
+is_there lists (Lose link place) = nat_lt place (length (slice_index_or lists link.0 []))
+is_there lists (ControlTake place keep) = true
+is_there lists (ControlLose place) = true
+is_there lists Decide = true
+is_there lists (Crash n) = true
+is_there lists (Cut link) = true
+
+-- the node acts in the event
+abbrev pub ActsAt : Graph → NodeId → Event → Type 0
+ActsAt graph id (Send host service now dests) = id.0 ≡ host.0
+ActsAt graph id (Tick n now) = id ≡ n
+ActsAt graph id (Take link place keep) = id.0 ≡ head_of graph link.0
+ActsAt graph id (Lose link place) = ⊥
+ActsAt graph id (ControlTake place keep) = ⊥
+ActsAt graph id (ControlLose place) = ⊥
+ActsAt graph id Decide = ⊥
+ActsAt graph id (Crash n) = ⊥
+ActsAt graph id (Cut link) = ⊥
+
+-- the outcome of an event at a node with this next timestamp, and what it takes
+abbrev pub Tells : ℕ → List (List Packet) → Event → Work → Type 0
+Tells next lists (Send host service now dests) w = (w.step.outcome ≡ send_outcome now.0 next) × (w.took ≡ Nothing)
+Tells next lists (Tick n now) w = (w.step.outcome ≡ Ok) × (w.took ≡ Nothing)
+Tells next lists (Take link place keep) w = (w.step.outcome ≡ Ok) × (w.took ≡ took_at link (slice_get (slice_index_or lists link.0 []) place))
+Tells next lists (Lose link place) w = ⊥
+Tells next lists (ControlTake place keep) w = ⊥
+Tells next lists (ControlLose place) w = ⊥
+Tells next lists Decide w = ⊥
+Tells next lists (Crash n) w = ⊥
+Tells next lists (Cut link) w = ⊥
+
+-- an event at a node: its record is what the rules say, and what is kept follows it
+pub record Adds (graph : Graph) (id : ℕ) (before after : Node) (lists left : List (List Packet)) (r : Record) : Type 0 where
+  pub rules : (past : List Record) → node.Stands graph id (own graph id past) before → queues.Stand graph lists past → IsStep graph past r
+  pub node_stands : (past : List Record) → node.Stands graph id (own graph id past) before → node.Stands graph id (own graph id (r ∷ past)) after
+  pub others : (n : ℕ) → n ≢ id → is_own graph n r ≡ false
+  pub queues_stand : (past : List Record) → queues.Stand graph lists past → queues.Stand graph left (r ∷ past)
+
+-- an event at a node: nothing happened
+pub record Restores (graph : Graph) (id : ℕ) (before after : Node) (lists left : List (List Packet)) : Type 0 where
+  pub node_stands : (own : List Record) → node.Stands graph id own before → node.Stands graph id own after
+  pub queues_stand : (past : List Record) → queues.Stand graph lists past → queues.Stand graph left past
+
+-- the record of an event that changes no node
+abbrev pub quiet_record : Event → Outcome → Record
+quiet_record event outcome = record { event = event; took = Nothing; step = quiet_step outcome }
+
+-- an event that changes no node: its record was appended, and what waits follows it
+pub record PassesBy (lists left : List (List Packet)) (old new : List Record) (r : Record) : Type 0 where
+  pub appended : new ≡ old ++ r ∷ []
+  pub queues_stand : (graph : Graph) (past : List Record) → queues.Stand graph lists past → queues.Stand graph left (r ∷ past)
+
+-- an event that changes no node: nothing happened
+pub record IsAsBefore (lists left : List (List Packet)) (old new : List Record) : Type 0 where
+  pub same : new ≡ old
+  pub queues_stand : (graph : Graph) (past : List Record) → queues.Stand graph lists past → queues.Stand graph left past
+
+-- the world after an event: the same network, and one record of the event more
+pub record Extends (old new : GraphAndTrace) (event : Event) : Type 0 where
+  pub graph_is : new.graph ≡ old.graph
+  pub adds : AddsEvent old.trace new.trace event

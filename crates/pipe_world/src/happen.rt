@@ -1,0 +1,180 @@
+// One event of the world.
+ghost use Rattle.std.specs.Prelude.{◌≡◌, ◌<◌, ◌∷◌, ◌++◌, List, [], IfOk, OnOk, OnErr, MatchOption, IfSome, length, true};
+ghost use Rattle.pipe_base.specs.Graph.{Graph, IsGraph};
+ghost use Rattle.pipe_model.specs.declared.record.Record.{Record};
+ghost use Rattle.pipe_model.specs.Event.{IsOfGraph, IsBuilt};
+ghost use Rattle.pipe_model.specs.Run.{is_of_nobody};
+ghost use Rattle.pipe_world.specs.Queues.{AreKnown, IsInPlace};
+ghost use Rattle.pipe_world.specs.Work.{IsWork};
+ghost use Rattle.pipe_world.specs.World.{ActsAt, Adds, AddsEvent, IsAsBefore, PassesBy, Restores, Stands, Tells, is_there, quiet_record};
+
+use crate::enter::enter;
+use crate::network::Network;
+use crate::node::Node;
+use crate::queue::Queue;
+use crate::settle::{commit, undo};
+use crate::work::{Work, send_work, take_work, tick_work};
+use pipe_base::{NoMemory, NodeId, Outcome, Step};
+use pipe_model::{Event, Record, Took, Trace};
+use std::alloc::Global;
+
+/// Appends the record of an event and changes what it changes. Where there is no memory nothing happens.
+pub fn happen(
+    alloc: Global,
+    network: &Network,
+    nodes: &mut [Node],
+    queues: &mut [Queue],
+    trace: &mut Trace,
+    event: Event,
+) -> Result<(), NoMemory>
+    requires stands { Stands network.now nodes.old queues.old trace.old }
+    requires event { IsOfGraph network.now event }
+    requires built { IsBuilt event }
+    ensures ok { OnOk result (AddsEvent trace.old trace.new event) }
+    ensures err { OnErr result (trace.new ≡ trace.old) }
+    ensures stands { Stands network.now nodes.new queues.new trace.new }
+{
+    if !is_there(queues, &event) {
+        return pass_by(alloc, queues, trace, event, Outcome::NoItem);
+    }
+    match acting_node(network, &event) {
+        Some(id) => act(
+            alloc,
+            network,
+            id,
+            &mut nodes[id.0 as usize],
+            queues,
+            trace,
+            event,
+        ),
+        None => pass_by(alloc, queues, trace, event, Outcome::Ok),
+    }
+}
+
+/// Something waits at the place that the event names, if it names one.
+fn is_there(queues: &[Queue], event: &Event) -> bool
+    requires { (graph : Graph) × (length queues.now ≡ length graph.links) × IsOfGraph graph event.now }
+    ensures { result ≡ is_there queues.now event.now }
+{
+    match event {
+        Event::Take { link, place, .. } | Event::Lose { link, place } => {
+            (*place as usize) < queues[link.0 as usize].len()
+        }
+        _ => true,
+    }
+}
+
+/// The node that acts in an event, or None where nobody does.
+fn acting_node(network: &Network, event: &Event) -> Option<NodeId>
+    requires graph { IsGraph network.now }
+    requires event { IsOfGraph network.now event.now }
+    requires built { IsBuilt event.now }
+    ensures acts { MatchOption result (is_of_nobody event.now ≡ true) (λ id. ActsAt network.now id event.now) }
+    ensures known { IfSome result (λ id. id.0 < network.now.nodes) }
+{
+    match event {
+        Event::Send { host, .. } => Some(NodeId(host.0)),
+        Event::Tick { node, .. } => Some(*node),
+        Event::Take { link, .. } => Some(network.head(*link)),
+        _ => None,
+    }
+}
+
+/// An event that changes no node: nothing waits at its place, or nobody acts in it.
+fn pass_by(
+    alloc: Global,
+    queues: &mut [Queue],
+    trace: &mut Trace,
+    event: Event,
+    outcome: Outcome,
+) -> Result<(), NoMemory>
+    requires { IsInPlace queues.old event outcome }
+    ensures ok { OnOk result (PassesBy queues.old queues.new trace.old trace.new (quiet_record event outcome)) }
+    ensures err { OnErr result (IsAsBefore queues.old queues.new trace.old trace.new) }
+{
+    let mut step = Step::new(alloc);
+    step.outcome = outcome;
+    let record = Record {
+        event,
+        took: Took::Nothing,
+        step,
+    };
+    if enter(queues, trace, record).is_err() {
+        return Err(NoMemory);
+    }
+    Ok(())
+}
+
+/// An event at the node that acts in it.
+fn act(
+    alloc: Global,
+    network: &Network,
+    id: NodeId,
+    node: &mut Node,
+    queues: &mut [Queue],
+    trace: &mut Trace,
+    event: Event,
+) -> Result<(), NoMemory>
+    requires event { IsOfGraph network.now event }
+    requires built { IsBuilt event }
+    requires acts { ActsAt network.now id event }
+    requires node { id.0 < network.now.nodes }
+    requires links { length queues.old ≡ length network.now.links }
+    requires there { is_there queues.old event ≡ true }
+    ensures ok { OnOk result ((r : Record) × (trace.new ≡ trace.old ++ r ∷ []) × (r.event ≡ event) × Adds network.now id.0 node.old node.new queues.old queues.new r) }
+    ensures err { OnErr result ((trace.new ≡ trace.old) × Restores network.now id.0 node.old node.new queues.old queues.new) }
+{
+    let work = work_at(alloc, network, id, node, queues, &event)?;
+    let next = work.next;
+    let record = Record {
+        event,
+        took: work.took,
+        step: work.step,
+    };
+    let at = trace.len();
+    match enter(queues, trace, record) {
+        Ok(()) => {
+            commit(node, &trace.as_slice()[at], next);
+            Ok(())
+        }
+        Err(record) => {
+            undo(node, &record);
+            Err(NoMemory)
+        }
+    }
+}
+
+/// Works out the step of the node that acts. Of the node only the message that it holds is changed.
+fn work_at(
+    alloc: Global,
+    network: &Network,
+    id: NodeId,
+    node: &mut Node,
+    queues: &[Queue],
+    event: &Event,
+) -> Result<Work, NoMemory>
+    requires event { IsOfGraph network.now event.now }
+    requires acts { ActsAt network.now id event.now }
+    requires node { id.0 < network.now.nodes }
+    requires links { length queues.now ≡ length network.now.links }
+    requires there { is_there queues.now event.now ≡ true }
+    ensures work { IfOk result (IsWork network.now id.0 node.old node.new event.now) }
+    ensures known { IfOk result (λ work. AreKnown (length network.now.links) work.step.put) }
+    ensures tells { IfOk result (Tells node.old.next.0 queues.now event.now) }
+    ensures err { OnErr result (node.new ≡ node.old) }
+{
+    match event {
+        Event::Send {
+            host,
+            now,
+            dests,
+            ..
+        } => { send_work(alloc, network, *host, node, *now, dests) }
+        Event::Tick { node: at, now } => tick_work(alloc, network, *at, node, *now),
+        Event::Take { link, place, .. } => {
+            let packet = queues[link.0 as usize].at(*place).try_clone()?;
+            take_work(alloc, network, id, node, *link, packet)
+        }
+        _ => unreachable!(),
+    }
+}

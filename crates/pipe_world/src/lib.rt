@@ -1,0 +1,19 @@
+//! The world: it runs a schedule of events on a star network and appends one record per event, each proved to be what the
+//! rules say of a run.
+#![tactic(auto)]
+
+mod enter;
+mod happen;
+mod network;
+mod node;
+mod puts;
+mod queue;
+mod queues;
+mod settle;
+mod work;
+mod world;
+
+pub use world::World;
+
+#[cfg(test)]
+mod tests;

@@ -1,0 +1,145 @@
+// The world: a network, what its nodes keep, what waits, and all that happened.
+ghost use Rattle.std.specs.Prelude.{◌≡◌, ◌<◌, ◌≤◌, ℕ, [], IfOk, OnOk, OnErr, length, min, reverse, slice_index_or};
+ghost use Rattle.pipe_model.specs.Event.{IsOfGraph, IsBuilt};
+ghost use Rattle.pipe_model.specs.Order.{AreLogsOrdered, AreStampsCausal, IsGenuine};
+ghost use Rattle.pipe_model.specs.Run.{IsHistory};
+ghost use Rattle.pipe_model.specs.Star.{star};
+ghost use Rattle.pipe_model.specs.Waiting.{waiting_on};
+ghost use Rattle.pipe_world.specs.declared.node.Node.{Node};
+ghost use Rattle.pipe_world.specs.Node as node;
+ghost use Rattle.pipe_world.specs.World.{Extends};
+
+use crate::happen::happen;
+use crate::network::Network;
+use crate::node::Node;
+use crate::queue::Queue;
+use crate::queues::empty_queues;
+use pipe_base::{LinkId, List, NoMemory, NodeId, Ts};
+use pipe_model::{Event, Trace};
+use std::alloc::Global;
+use std::marker::Model;
+
+/// A network that runs a schedule: one record per event, each proved to be what the rules say.
+#[derive(Drop)]
+pub struct World {
+    alloc: Global,
+    network: Network,
+    nodes: Vec<Node>,
+    queues: Vec<Queue>,
+    trace: Trace,
+}
+
+impl Model for World {
+    ghost use Rattle.pipe_world.specs.World.{GraphAndTrace, Stands};
+
+    ghost Value = { GraphAndTrace };
+
+    ghost view = { λ w. record { graph = w.network; trace = w.trace } };
+
+    ghost invariant = { λ w. Stands w.network w.nodes.items w.queues.items w.trace };
+}
+
+impl World {
+    /// A star of hosts around one switch, to which nothing has happened.
+    pub fn star(alloc: Global, hosts: u16, patience: Ts) -> Result<World, NoMemory>
+        requires hosts { (1 ≤ hosts) × (hosts ≤ 64) }
+        requires patience { (1 ≤ patience.0) × (patience.0 ≤ 281474976710654) }
+        ensures { IfOk result (λ world. world ≡ record { graph = star hosts patience.0; trace = [] }) }
+    {
+        let network = Network::star(alloc, hosts, patience)?;
+        let nodes = fresh_nodes(alloc, &network)?;
+        let queues = empty_queues(alloc, network.links())?;
+        Ok(World {
+            alloc,
+            network,
+            nodes,
+            queues,
+            trace: List::new(alloc),
+        })
+    }
+
+    /// Runs one event and appends its record.
+    pub fn step(&mut self, event: Event) -> Result<(), NoMemory>
+        requires event { IsOfGraph self.old.graph event }
+        requires built { IsBuilt event }
+        ensures ok { OnOk result (Extends self.old self.new event) }
+        ensures err { OnErr result (self.new ≡ self.old) }
+    {
+        happen(
+            self.alloc,
+            &self.network,
+            &mut self.nodes,
+            &mut self.queues,
+            &mut self.trace,
+            event,
+        )
+    }
+
+    /// All that happened, the oldest record first. It is a history by the rules, and the order of the channel holds of it.
+    pub fn trace(&self) -> &Trace
+        ensures trace { result.now ≡ self.now.trace }
+        ensures history { IsHistory self.now.graph (reverse self.now.trace) }
+        ensures ordered { AreLogsOrdered self.now.graph (reverse self.now.trace) }
+        ensures causal { AreStampsCausal self.now.graph (reverse self.now.trace) }
+        ensures genuine { IsGenuine self.now.graph (reverse self.now.trace) }
+    {
+        &self.trace
+    }
+
+    /// The trace by itself.
+    pub fn into_trace(self) -> Trace
+        ensures trace { result ≡ self.trace }
+        ensures history { IsHistory self.graph (reverse result) }
+        ensures ordered { AreLogsOrdered self.graph (reverse result) }
+        ensures causal { AreStampsCausal self.graph (reverse result) }
+        ensures genuine { IsGenuine self.graph (reverse result) }
+    {
+        self.trace
+    }
+
+    pub fn hosts(&self) -> u16
+        ensures hosts { result ≡ self.now.graph.hosts }
+        ensures nodes { self.now.graph.hosts ≤ self.now.graph.nodes }
+    {
+        self.network.hosts()
+    }
+
+    pub fn nodes(&self) -> u16
+        ensures { result ≡ self.now.graph.nodes }
+    {
+        self.network.nodes()
+    }
+
+    pub fn links(&self) -> u16
+        ensures { result ≡ length self.now.graph.links }
+    {
+        self.network.links()
+    }
+
+    /// How many packets wait on a link, at most 2^32 - 1.
+    pub fn waiting(&self, link: LinkId) -> u32
+        requires { link.0 < length self.now.graph.links }
+        ensures { result ≡ min (length (waiting_on link.0 (reverse self.now.trace))) 4294967295 }
+    {
+        waiting_in(&self.queues, link)
+    }
+}
+
+fn waiting_in(queues: &[Queue], link: LinkId) -> u32
+    requires { link.0 < length queues.now }
+    ensures { result ≡ min (length (slice_index_or queues.now link.0 [])) 4294967295 }
+{
+    queues[link.0 as usize].len().min(4294967295) as u32
+}
+
+/// A node with its in-links for each number, to which nothing has happened.
+fn fresh_nodes(alloc: Global, network: &Network) -> Result<Vec<Node>, NoMemory>
+    ensures count { IfOk result (λ nodes. length nodes.items ≡ network.now.nodes) }
+    ensures stand { IfOk result (λ nodes. (n : ℕ) (d : Node) → n < network.now.nodes → node.Stands network.now n [] (slice_index_or nodes.items n d)) }
+{
+    let mut nodes = Vec::new(alloc);
+    'nodes: for id in 0..network.nodes() {
+        nodes.push(Node::new(alloc, network.ins(NodeId(id)))?)?;
+    }
+    Ok(nodes)
+}
