@@ -20,7 +20,6 @@ fn answer(alloc: Global, input: &[u8]) -> Result<String, AllocError>
     }
 }
 
-
 #[test]
 fn stars(rt: HostRuntime) -> Result<(), Fail> {
     for (input, words) in [
@@ -56,28 +55,88 @@ fn first_faults(rt: HostRuntime) -> Result<(), Fail> {
         ("hosts = []\nlinks = []\n---\n", "unknown key"),
         ("switches = []\n---\n", "key hosts"),
         ("hosts = [1]\n---\n", "key hosts"),
-        ("hosts = [\"h0\"]\nswitches = \"s0 1\"\ncables = []\n---\n", "key switches"),
+        (
+            "hosts = [\"h0\"]\nswitches = \"s0 1\"\ncables = []\n---\n",
+            "key switches",
+        ),
         ("hosts = [\"h0\"]\nswitches = []\n---\n", "key cables"),
-        ("hosts = []\nswitches = []\ncables = []\npatience = 0\n---\n", "key patience"),
-        ("hosts = []\nswitches = []\ncables = []\npatience = 281474976710655\n---\n", "key patience"),
-        ("hosts = []\nswitches = []\ncables = []\npatience = \"9\"\n---\n", "key patience"),
-        ("hosts = [\"H\"]\nswitches = [\"s0 15\", \"s1 16\", \"s2 0\"]\ncables = []\n---\n", "switch 1"),
-        ("hosts = []\nswitches = [\"s0  1\"]\ncables = []\n---\n", "switch 0"),
-        ("hosts = []\nswitches = [\"s0 01\"]\ncables = []\n---\n", "switch 0"),
-        ("hosts = []\nswitches = [\"s0\"]\ncables = []\n---\n", "switch 0"),
-        ("hosts = []\nswitches = [\"0s 1\"]\ncables = []\n---\n", "switch 0"),
-        ("hosts = [\"controller\"]\nswitches = []\ncables = [\"\"]\n---\n", "name 0"),
-        ("hosts = [\"h0\", \"h0\"]\nswitches = []\ncables = []\n---\n", "name 1"),
-        ("hosts = [\"h0\"]\nswitches = [\"s0 1\", \"h0 1\"]\ncables = []\n---\n", "name 2"),
-        ("hosts = [\"h0\"]\nswitches = [\"s0 1\"]\ncables = [\"h0 s0\", \"h0  s0\"]\n---\n", "cable 1"),
-        ("hosts = [\"h0\"]\nswitches = [\"s0 1\"]\ncables = [\"h0\"]\n---\n", "cable 0"),
-        ("hosts = [\"h0\"]\nswitches = [\"s0 1\"]\ncables = [\"h0 s0 \"]\n---\n", "cable 0"),
+        (
+            "hosts = []\nswitches = []\ncables = []\npatience = 0\n---\n",
+            "key patience",
+        ),
+        (
+            "hosts = []\nswitches = []\ncables = []\npatience = 281474976710655\n---\n",
+            "key patience",
+        ),
+        (
+            "hosts = []\nswitches = []\ncables = []\npatience = \"9\"\n---\n",
+            "key patience",
+        ),
+        (
+            "hosts = [\"H\"]\nswitches = [\"s0 15\", \"s1 16\", \"s2 0\"]\ncables = []\n---\n",
+            "switch 1",
+        ),
+        (
+            "hosts = []\nswitches = [\"s0  1\"]\ncables = []\n---\n",
+            "switch 0",
+        ),
+        (
+            "hosts = []\nswitches = [\"s0 01\"]\ncables = []\n---\n",
+            "switch 0",
+        ),
+        (
+            "hosts = []\nswitches = [\"s0\"]\ncables = []\n---\n",
+            "switch 0",
+        ),
+        (
+            "hosts = []\nswitches = [\"0s 1\"]\ncables = []\n---\n",
+            "switch 0",
+        ),
+        (
+            "hosts = [\"controller\"]\nswitches = []\ncables = [\"\"]\n---\n",
+            "name 0",
+        ),
+        (
+            "hosts = [\"h0\", \"h0\"]\nswitches = []\ncables = []\n---\n",
+            "name 1",
+        ),
+        (
+            "hosts = [\"h0\"]\nswitches = [\"s0 1\", \"h0 1\"]\ncables = []\n---\n",
+            "name 2",
+        ),
+        (
+            "hosts = [\"h0\"]\nswitches = [\"s0 1\"]\ncables = [\"h0 s0\", \"h0  s0\"]\n---\n",
+            "cable 1",
+        ),
+        (
+            "hosts = [\"h0\"]\nswitches = [\"s0 1\"]\ncables = [\"h0\"]\n---\n",
+            "cable 0",
+        ),
+        (
+            "hosts = [\"h0\"]\nswitches = [\"s0 1\"]\ncables = [\"h0 s0 \"]\n---\n",
+            "cable 0",
+        ),
         ("hosts = []\nswitches = []\ncables = []\n---\n", "no host"),
-        ("hosts = [\"h0\", \"h1\"]\nswitches = []\ncables = [\"h0 h1\"]\n---\n", "level of cable 0"),
-        ("hosts = [\"h0\"]\nswitches = [\"s0 1\"]\ncables = [\"h0 s0\", \"s0 h0\"]\n---\n", "cable 1 twice"),
-        ("hosts = [\"h0\"]\nswitches = [\"s0 1\", \"s1 2\"]\ncables = [\"h0 s0\"]\n---\n", "idle switch 1"),
-        ("hosts = [\"h0\", \"h1\"]\nswitches = [\"s0 1\", \"s1 1\"]\ncables = [\"h0 s0\", \"h1 s1\"]\n---\n", "apart 0 1"),
-        ("hosts = [\"h0\"]\r\nswitches = [\"s0 1\"]\r\ncables = [\"h0 s0\"]\r\n---", "ok"),
+        (
+            "hosts = [\"h0\", \"h1\"]\nswitches = []\ncables = [\"h0 h1\"]\n---\n",
+            "level of cable 0",
+        ),
+        (
+            "hosts = [\"h0\"]\nswitches = [\"s0 1\"]\ncables = [\"h0 s0\", \"s0 h0\"]\n---\n",
+            "cable 1 twice",
+        ),
+        (
+            "hosts = [\"h0\"]\nswitches = [\"s0 1\", \"s1 2\"]\ncables = [\"h0 s0\"]\n---\n",
+            "idle switch 1",
+        ),
+        (
+            "hosts = [\"h0\", \"h1\"]\nswitches = [\"s0 1\", \"s1 1\"]\ncables = [\"h0 s0\", \"h1 s1\"]\n---\n",
+            "apart 0 1",
+        ),
+        (
+            "hosts = [\"h0\"]\r\nswitches = [\"s0 1\"]\r\ncables = [\"h0 s0\"]\r\n---",
+            "ok",
+        ),
     ] {
         assert!(rt; input.len() < 200);
         let found = answer(rt.alloc(), input.as_bytes())?;
@@ -134,7 +193,8 @@ fn plans(rt: HostRuntime) -> Result<(), Fail> {
     assert_eq!(rt; star.names.number("h1"), Some(1));
     assert_eq!(rt; star.names.number("s0"), Some(2));
     assert_eq!(rt; star.topology.links(), 5);
-    let text = b"hosts = [\"a\", \"b\"]\nswitches = [\"low 1\", \"high-2 15\"]\ncables = [\"a low\", \"low b\", \"high-2 low\"]\n---\ntick a 5\n";
+    let text =
+        b"hosts = [\"a\", \"b\"]\nswitches = [\"low 1\", \"high-2 15\"]\ncables = [\"a low\", \"low b\", \"high-2 low\"]\n---\ntick a 5\n";
     let input = read(rt.alloc(), text)?;
     assert_eq!(rt; (input.plan.hosts, input.plan.patience.0), (2, 1000));
     assert_eq!(rt; input.plan.levels.as_slice(), [1, 15].as_slice());
