@@ -1,3 +1,3 @@
 pub mod LineLaws
-pub mod ReceiverLaws
+pub mod NameLaws
 pub mod ScheduleLaws

@@ -1,5 +1,8 @@
 -- Lemmas on schedules.
-use Rattle.std.proofs.Common.{◌≡◌, ℕ, ◌+◌, Bool, true, false, List, [], ◌∷◌, ◌++◌, Result, Ok, Err, refl, ap, sym, ◌∙◌, append_assoc, if◌then◌else◌}
+use Rattle.std.proofs.Common.{◌≡◌, ℕ, ◌+◌, Bool, true, false, List, [], ◌∷◌, ◌++◌, Option, Some, None, IfSome, IfNone, Result, Ok, Err, All, refl, ap, sym, subst, ◌∙◌, append_assoc, if◌then◌else◌}
+use Rattle.std.specs.Option.{option_to_list}
+use Rattle.std.proofs.lemmas.List.{append-nil}
+use Rattle.std.proofs.lemmas.List.Elements.{All-push}
 use Rattle.std.specs.Str.Lines.{lines}
 use Rattle.pipe_base.specs.Graph.{Graph}
 use Rattle.pipe_model.specs.declared.event.Event.{Event}
@@ -55,3 +58,22 @@ schedule_fault graph names before at kind text line rest all split is bad so_far
     ∙ ap (λ ls. after_events before (schedule_of graph names at ls)) split
     ∙ ap (λ t. after_events before (line_then graph names at line (lines rest) t)) is
     ∙ ap (λ e. after_events before (event_onto at e (schedule_of graph names (at + 1) (lines rest)))) bad
+
+-- one line more, whose event there is unless it is skipped
+pub schedule_more : (graph : Graph) (names : List (List ℕ)) (before now : List Event) (event : Option Event) (at : ℕ) (text line rest : List ℕ)
+    (all : Result (List Event) (ℕ × LineKind))
+    → lines text ≡ line ∷ lines rest → IfNone event (is_skipped (words_of line) ≡ true)
+    → IfSome event (λ e. (is_skipped (words_of line) ≡ false) × (line_event graph names (words_of line) ≡ Ok e))
+    → now ≡ before ++ option_to_list event
+    → after_events before (schedule_of graph names at (lines text)) ≡ all → after_events now (schedule_of graph names (at + 1) (lines rest)) ≡ all
+schedule_more graph names before now None at text line rest all split skipped read push so_far =
+    ap (λ es. after_events es (schedule_of graph names (at + 1) (lines rest))) (push ∙ append-nil before)
+    ∙ schedule_skip graph names before at text line rest all split skipped so_far
+schedule_more graph names before now (Some event) at text line rest all split skipped read push so_far =
+    schedule_event graph names before now event at text line rest all split read.0 read.1 push so_far
+
+-- what holds of the events holds with one more, where there is one
+pub known_more : (P : Event → Type 0) (before now : List Event) (event : Option Event) → now ≡ before ++ option_to_list event → All P before → IfSome event P
+    → All P now
+known_more P before now None push all one = subst (All P) (sym (push ∙ append-nil before)) all
+known_more P before now (Some event) push all one = subst (All P) (sym push) (All-push P before event all one)

@@ -1,5 +1,6 @@
 // The lines of a schedule as events.
-ghost use Rattle.std.specs.Prelude.{◌≡◌, ◌+◌, ◌≤◌, ℕ, All, true, false, length, IfOk, IfSome, IfNone, Ok, Err};
+ghost use Rattle.std.specs.Prelude.{◌≡◌, ◌+◌, ◌++◌, ◌≤◌, ℕ, All, true, false, length, IfOk, IfSome, IfNone, Ok, Err, OnOk};
+ghost use Rattle.std.specs.Option.{option_to_list};
 ghost use Rattle.std.specs.Str.Lines.{lines};
 ghost use Rattle.pipe_text.specs.declared.kind.LineKind.{LineKind as Kind};
 ghost use Rattle.pipe_text.specs.Words.{words_of, is_skipped};
@@ -21,6 +22,17 @@ pub enum ScheduleFault {
     NoMemory,
 }
 
+impl From<NoMemory> for ScheduleFault {
+    ghost use Rattle.std.specs.Prelude.{◌≡◌};
+    ghost use Rattle.pipe_text_schedule.specs.declared.schedule.ScheduleFault.TheVariants.{NoMemory};
+
+    ghost from_gives = { λ _ e. e ≡ NoMemory };
+
+    fn from(_: NoMemory) -> Self {
+        ScheduleFault::NoMemory
+    }
+}
+
 /// The events of a schedule whose first line has the number `first`.
 pub fn read_schedule(
     alloc: Global,
@@ -39,19 +51,25 @@ pub fn read_schedule(
     let mut line = first;
     'lines: while !rest.is_empty() {
         let (next, after) = next_line(rest);
-        match read_line(alloc, names, topology, next, line) {
-            Ok(Some(event)) => {
-                if events.push(event).is_err() {
-                    return Err(ScheduleFault::NoMemory);
-                }
-            }
-            Ok(None) => {}
+        let event = match read_line(alloc, names, topology, next, line) {
+            Ok(event) => event,
             Err(fault) => return Err(fault),
-        }
+        };
+        add(&mut events, event)?;
         rest = after;
         line += 1;
     }
     Ok(events)
+}
+
+// Appends the event, where there is one.
+fn add(events: &mut EventList, event: Option<Event>) -> Result<(), NoMemory>
+    ensures { OnOk result (events.new ≡ events.old ++ option_to_list event) }
+{
+    match event {
+        Some(event) => events.push(event),
+        None => Ok(()),
+    }
 }
 
 // The event of the line with this number. None where the line is skipped.
@@ -67,15 +85,12 @@ fn read_line(
     ensures skipped { IfOk result (λ event. IfNone event (is_skipped (words_of text.now) ≡ true)) }
     ensures fault { (at : ℕ) (kind : Kind) → result ≡ Err (ScheduleFault.Line at kind) → (at ≡ line) × ((is_skipped (words_of text.now) ≡ false) × (line_event topology.now names.now (words_of text.now) ≡ Err kind)) }
 {
-    let Ok(words) = words_of(alloc, text) else {
-        return Err(ScheduleFault::NoMemory);
-    };
+    let words = words_of(alloc, text)?;
     if is_skipped(&words) {
         return Ok(None);
     }
-    match read_event(alloc, names, topology, &words) {
-        Ok(Ok(event)) => Ok(Some(event)),
-        Ok(Err(kind)) => Err(ScheduleFault::Line { line, kind }),
-        Err(NoMemory) => Err(ScheduleFault::NoMemory),
+    match read_event(alloc, names, topology, &words)? {
+        Ok(event) => Ok(Some(event)),
+        Err(kind) => Err(ScheduleFault::Line { line, kind }),
     }
 }

@@ -1,7 +1,10 @@
 // The line of a send.
-ghost use Rattle.std.specs.Prelude.{◌≡◌, map, IfOk};
+ghost use Rattle.std.specs.Prelude.{◌≡◌, ◌<◌, ◌≤◌, [], length, map, IfOk};
 ghost use Rattle.pipe_text_schedule.specs.Line.{CanHappen};
-ghost use Rattle.pipe_text_schedule.specs.Send.{best_line, send_line};
+ghost use Rattle.pipe_text_schedule.specs.Named.{host_in};
+ghost use Rattle.pipe_text_schedule.specs.Receivers.{receivers_in};
+ghost use Rattle.pipe_text_schedule.specs.Send.{best_line, send_from, send_line, service_of};
+ghost use Rattle.pipe_text_schedule.specs.Tick.{reading_of};
 
 use crate::name::host_named;
 use crate::receivers::read_receivers;
@@ -57,6 +60,23 @@ fn read_best(
     if receivers.len() > RECEIVER_LIMIT {
         return Ok(Err(LineKind::Receivers));
     }
+    read_fields(alloc, names, topology, host, service, now, receivers)
+}
+
+// The words of a send in order, of which there are as many as it wants.
+fn read_fields(
+    alloc: Global,
+    names: &Names,
+    topology: &Topology,
+    host: &[u8],
+    service: &[u8],
+    now: &[u8],
+    receivers: &[&[u8]],
+) -> Result<Result<Event, LineKind>, NoMemory>
+    requires { (0 < length receivers.now) × (length receivers.now ≤ 16) }
+    ensures event { IfOk result (λ read. read ≡ send_from (host_in topology.now names.now host.now) (service_of service.now) (reading_of now.now) (receivers_in topology.now names.now [] (map (λ word. word.now) receivers.now))) }
+    ensures known { IfOk result (λ read. IfOk read (CanHappen topology.now)) }
+{
     let Some(host) = host_named(names, topology, host) else {
         return Ok(Err(LineKind::Node));
     };
