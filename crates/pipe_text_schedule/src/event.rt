@@ -74,7 +74,12 @@ fn read_take(topology: &Topology, words: &[&[u8]]) -> Result<Event, LineKind>
     take_at(topology, link, place, keep_of(keep))
 }
 
-fn take_at(topology: &Topology, link: &[u8], place: &[u8], keep: Option<bool>) -> Result<Event, LineKind>
+fn take_at(
+    topology: &Topology,
+    link: &[u8],
+    place: &[u8],
+    keep: Option<bool>,
+) -> Result<Event, LineKind>
     ensures event { result ≡ take_from (link_in topology.now link.now) (place_of place.now) keep }
     ensures known { IfOk result (CanHappen topology.now) }
 {

@@ -10,3 +10,6 @@ mod schedule;
 mod send;
 
 pub use schedule::{ScheduleFault, read_schedule};
+
+#[cfg(test)]
+mod tests;
