@@ -35,41 +35,39 @@ fn read(
 
 #[test]
 fn events(rt: HostRuntime) -> Result<(), Fail> {
-    let table: [(&[u8], &str); 8] = [
+    let table: [(&[u8], &[u8]); 8] = [
         (
             b"send h0 best 10 h1=6869 h0=",
-            "Send { host: HostId(0), service: BestEffort, now: Ts(10), dests: List { items: [(HostId(1), Body { bytes: [104, 105] }), (HostId(0), Body { bytes: [] })] } }",
+            b"Send { host: HostId(0), service: BestEffort, now: Ts(10), dests: List { items: [(HostId(1), Body { bytes: [104, 105] }), (HostId(0), Body { bytes: [] })] } }",
         ),
-        (b"tick h1 0", "Tick { node: NodeId(1), now: Ts(0) }"),
+        (b"tick h1 0", b"Tick { node: NodeId(1), now: Ts(0) }"),
         (
             b"tick s0.up 281474976710654",
-            "Tick { node: NodeId(2), now: Ts(281474976710654) }",
+            b"Tick { node: NodeId(2), now: Ts(281474976710654) }",
         ),
         (
             b" \ttick\ts0.down  7 \r\n",
-            "Tick { node: NodeId(3), now: Ts(7) }",
+            b"Tick { node: NodeId(3), now: Ts(7) }",
         ),
         (
             b"# c\n\n \t\ntake 4 0",
-            "Take { link: LinkId(4), place: 0, keep: false }",
+            b"Take { link: LinkId(4), place: 0, keep: false }",
         ),
         (
             b"take 0 4294967295 keep",
-            "Take { link: LinkId(0), place: 4294967295, keep: true }",
+            b"Take { link: LinkId(0), place: 4294967295, keep: true }",
         ),
-        (b"lose 3 2\r\n#", "Lose { link: LinkId(3), place: 2 }"),
+        (b"lose 3 2\r\n#", b"Lose { link: LinkId(3), place: 2 }"),
         (
             b"\r\n#tick\n lose 0 0\n\n",
-            "Lose { link: LinkId(0), place: 0 }",
+            b"Lose { link: LinkId(0), place: 0 }",
         ),
     ];
     for (text, event) in table {
         let events = read(&rt, rt.alloc(), text)??;
-        assert_eq!(rt; events.len(), 1, "{event}");
-        assert_eq!(rt;
-            format!(in rt.alloc(); "{:?}", events.as_slice()[0])?.as_str(),
-            event
-        );
+        assert_eq!(rt; events.len(), 1, "{text:?}");
+        let shown = format!(in rt.alloc(); "{:?}", events.as_slice()[0])?;
+        assert_eq!(rt; shown.as_bytes(), event);
     }
     assert!(rt; read(&rt, rt.alloc(), b"")??.is_empty());
     Ok(())
