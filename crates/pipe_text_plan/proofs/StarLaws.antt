@@ -1,0 +1,86 @@
+-- Lemmas on stars.
+use Rattle.std.proofs.Common.{◌≡◌, ℕ, zero, suc, ◌+◌, ◌<◌, ◌≤◌, ◌^◌, Bool, true, false, not, if◌then◌else◌, List, [], ◌∷◌, ◌++◌, length, drop, get_or, map, None, refl, ap, sym, subst, ◌∙◌, arith, codes}
+use Rattle.std.specs.Fmt.{decimal}
+use Rattle.std.specs.List.{list_any, range_with_len}
+use Rattle.std.specs.Str.{bytes_eq}
+use Rattle.std.proofs.lemmas.Fmt.{decimal_injective}
+use Rattle.std.proofs.lemmas.List.FromFn.{map-range_with_len_more}
+use Rattle.std.proofs.lemmas.List.FromFn.{get_or-map-range_with_len, length-map-range_with_len}
+use Rattle.std.proofs.lemmas.List.Folds.{list_any_none}
+use Rattle.std.proofs.lemmas.Slice.Eq.{bytes_eq-Decides}
+use Rattle.pipe_topo.specs.declared.plan.CableEnd.{CableEnd}
+use Rattle.pipe_topo.specs.declared.plan.CableEnd.TheVariants.{Host, Switch}
+use Rattle.pipe_topo.specs.Plan.{IsEnd, HasEnds}
+use Rattle.pipe_topo.specs.Star.{host_cable}
+use Rattle.pipe_text_plan.specs.Star.{star_of, host_name}
+
+-- too few words, or too many
+pub star_short : (words : List (List ℕ)) → length words < 2 → star_of words ≡ None
+star_short [] few = refl
+star_short (star ∷ []) few = refl
+star_short (star ∷ hosts ∷ words) few = absurd (omega arith)
+
+pub star_long : (words : List (List ℕ)) → 4 ≤ length words → star_of words ≡ None
+star_long [] many = absurd (omega arith)
+star_long (star ∷ []) many = absurd (omega arith)
+star_long (star ∷ hosts ∷ []) many = absurd (omega arith)
+star_long (star ∷ hosts ∷ patience ∷ []) many = absurd (omega arith)
+star_long (star ∷ hosts ∷ patience ∷ another ∷ words) many = refl
+
+not_true : (t : Bool) → (t ≡ true → ⊥) → t ≡ false
+not_true true never = absurd (never refl)
+not_true false never = refl
+
+-- the names of different hosts differ
+host_differs : (m n : ℕ) → m < n → n < 2 ^ 64 → bytes_eq (host_name n) (host_name m) ≡ false
+host_differs m n below small =
+    not_true (bytes_eq (host_name n) (host_name m))
+    (λ same.
+    let names : host_name n ≡ host_name m = (bytes_eq-Decides (host_name n) (host_name m)).0 same in
+    let numbers : n ≡ m = decimal_injective n m small (omega arith) (ap (drop 1) names) in
+    omega arith)
+
+fresh_host : (n : ℕ) → n < 2 ^ 64 → list_any (bytes_eq (host_name n)) (map host_name (range_with_len 0 n)) ≡ false
+fresh_host n small =
+    list_any_none (bytes_eq (host_name n)) (map host_name (range_with_len 0 n))
+    (λ k d below.
+    let within : k < n = omega (arith, below, length-map-range_with_len host_name 0 n) in
+    ap (bytes_eq (host_name n)) (get_or-map-range_with_len host_name 0 n k k d within (omega arith)) ∙ host_differs k n within small)
+
+fresh_switch : (n : ℕ) → list_any (bytes_eq (codes "s0")) (map host_name (range_with_len 0 n)) ≡ false
+fresh_switch n =
+    list_any_none (bytes_eq (codes "s0")) (map host_name (range_with_len 0 n))
+    (λ k d below.
+    let within : k < n = omega (arith, below, length-map-range_with_len host_name 0 n) in
+    ap (bytes_eq (codes "s0")) (get_or-map-range_with_len host_name 0 n k k d within (omega arith)))
+
+-- one host more
+pub host_more : (names longer : List (List ℕ)) (name : List ℕ) (n : ℕ) (new : Bool) → n < 2 ^ 64 → names ≡ map host_name (range_with_len 0 n)
+    → name ≡ host_name n → new ≡ not (list_any (bytes_eq name) names) → longer ≡ (if new then names ++ name ∷ [] else names)
+    → longer ≡ map host_name (range_with_len 0 (n + 1))
+host_more names longer name n new small so_far is added more =
+    let fresh : list_any (bytes_eq name) names ≡ false = (λ i. list_any (bytes_eq (is i)) (so_far i)) ∙ fresh_host n small in
+    more
+    ∙ ap (λ (b : Bool). if b then names ++ name ∷ [] else names) (added ∙ ap not fresh)
+    ∙ (λ i. so_far i ++ is i ∷ [])
+    ∙ sym (map-range_with_len_more host_name 0 n n (omega arith))
+
+-- and the switch
+pub switch_last : (names longer : List (List ℕ)) (name : List ℕ) (n : ℕ) (new : Bool) → names ≡ map host_name (range_with_len 0 n)
+    → name ≡ codes "s0" → new ≡ not (list_any (bytes_eq name) names) → longer ≡ (if new then names ++ name ∷ [] else names)
+    → longer ≡ map host_name (range_with_len 0 n) ++ codes "s0" ∷ []
+switch_last names longer name n new so_far is added more =
+    let fresh : list_any (bytes_eq name) names ≡ false = (λ i. list_any (bytes_eq (is i)) (so_far i)) ∙ fresh_switch n in
+    more
+    ∙ ap (λ (b : Bool). if b then names ++ name ∷ [] else names) (added ∙ ap not fresh)
+    ∙ (λ i. so_far i ++ is i ∷ [])
+
+pub hosts_size : (names : List (List ℕ)) (n : ℕ) → names ≡ map host_name (range_with_len 0 n) → length names ≡ n
+hosts_size names n is = ap length is ∙ length-map-range_with_len host_name 0 n
+
+-- each cable of a star has a host and the switch
+pub star_ends : (n : ℕ) → HasEnds n 1 (map host_cable (range_with_len 0 n))
+star_ends n = λ k d below.
+    let within : k < n = omega (arith, below, length-map-range_with_len host_cable 0 n) in
+    let is = get_or-map-range_with_len host_cable 0 n k k d within (omega arith) in
+    subst (λ (cable : CableEnd × CableEnd). IsEnd n 1 cable.0 × IsEnd n 1 cable.1) (sym is) (within, omega arith)

@@ -1,0 +1,15 @@
+pub mod Pieces
+pub mod Division
+pub mod Counted
+pub mod Name
+pub mod Keys
+pub mod Texts
+pub mod ReadAll
+pub mod Switch
+pub mod Cable
+pub mod Numbering
+pub mod Star
+pub mod Described
+pub mod FaultWords
+pub mod Views
+pub mod Input

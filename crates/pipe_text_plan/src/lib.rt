@@ -1,0 +1,24 @@
+//! Topologies as they are read: the parts of an input, names, plans from TOML and from the line of a star, and the first
+//! fault of each.
+#![tactic(auto)]
+
+mod array;
+mod cable;
+mod count;
+mod division;
+mod document;
+mod fault;
+mod name;
+mod number;
+mod piece;
+mod read;
+mod space;
+mod star;
+mod switch;
+mod word;
+
+pub use count::lines_read;
+pub use division::{Parts, parts_of};
+pub use fault::{KeyName, PlanError, PlanFault};
+pub use name::is_name;
+pub use read::{PlanInput, read_plan};

@@ -1,0 +1,51 @@
+// The line of a star.
+ghost use Rattle.std.specs.Prelude.{◌≡◌, ◌≤◌, map, IfOk, IfSome};
+ghost use Rattle.pipe_text_plan.specs.Star.{star_with, star_of, star_names};
+
+use pipe_base::NoMemory;
+use pipe_text::read_number;
+use pipe_topo::Names;
+use std::alloc::Global;
+
+// The patience where none is given.
+const PATIENCE: u64 = 1000;
+
+// The number of hosts and the patience.
+pub fn star_of(words: &[&[u8]]) -> Option<(u16, u64)>
+    ensures value { result ≡ star_of (map (λ word. word.now) words.now) }
+    ensures few { IfSome result (λ star. star.0 ≤ 64) }
+{
+    match words {
+        [_, hosts] => star_with(read_number(hosts, 64), Some(PATIENCE)),
+        [_, hosts, patience] => star_with(read_number(hosts, 64), read_number(patience, 281474976710654)),
+        _ => None,
+    }
+}
+
+fn star_with(hosts: Option<u64>, patience: Option<u64>) -> Option<(u16, u64)>
+    requires { IfSome hosts (λ n. n ≤ 64) }
+    ensures value { result ≡ star_with hosts patience }
+    ensures few { IfSome result (λ star. star.0 ≤ 64) }
+{
+    let (Some(hosts), Some(patience)) = (hosts, patience) else {
+        return None;
+    };
+    if hosts == 0 || patience == 0 {
+        return None;
+    }
+    Some((hosts as u16, patience))
+}
+
+// The hosts' names and then the switch's.
+pub fn star_names(alloc: Global, hosts: u16) -> Result<Names, NoMemory>
+    requires { hosts ≤ 64 }
+    ensures { IfOk result (λ names. names ≡ star_names hosts) }
+{
+    let mut names = Names::new(alloc);
+    for host in 0..hosts {
+        let name = format!(in alloc; "h{host}")?;
+        let _ = names.add(name.as_str())?;
+    }
+    let _ = names.add("s0")?;
+    Ok(names)
+}
