@@ -7,3 +7,6 @@ mod record;
 
 pub use event::{Event, EventList};
 pub use record::{Record, Took, Trace};
+
+#[cfg(test)]
+mod tests;

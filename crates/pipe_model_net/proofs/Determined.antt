@@ -36,7 +36,7 @@ put_same : (graph : Graph) (n : ℕ) (o : List Record) (e : Event) (t : Took) (a
     → a.stamped ≡ b.stamped → a.logged ≡ b.logged → put graph n o (of e t a) ≡ put graph n o (of e t b)
 put_same graph n o e t a b down drop stamp log =
     let f : List (LinkId × Ts) → List LinkId → Option Ts → List (Service × Entry) → List (LinkId × Packet) =
-        λ d l s m. put graph n o (of e t (record a { downed = d; dropped = l; stamped = s; logged = m })) in
+    λ d l s m. put graph n o (of e t (record a { downed = d; dropped = l; stamped = s; logged = m })) in
     ap (λ (d : List (LinkId × Ts)). f d a.dropped a.stamped a.logged) down ∙ ap (λ (l : List LinkId). f b.downed l a.stamped a.logged) drop
     ∙ ap (λ (s : Option Ts). f b.downed b.dropped s a.logged) stamp ∙ ap (λ (m : List (Service × Entry)). f b.downed b.dropped b.stamped m) log
 
@@ -44,7 +44,7 @@ unrouted_same : (graph : Graph) (n : ℕ) (o : List Record) (e : Event) (t : Too
     → a.stamped ≡ b.stamped → a.logged ≡ b.logged → unrouted graph n o (of e t a) ≡ unrouted graph n o (of e t b)
 unrouted_same graph n o e t a b down drop stamp log =
     let f : List (LinkId × Ts) → List LinkId → Option Ts → List (Service × Entry) → ℕ =
-        λ d l s m. unrouted graph n o (of e t (record a { downed = d; dropped = l; stamped = s; logged = m })) in
+    λ d l s m. unrouted graph n o (of e t (record a { downed = d; dropped = l; stamped = s; logged = m })) in
     ap (λ (d : List (LinkId × Ts)). f d a.dropped a.stamped a.logged) down ∙ ap (λ (l : List LinkId). f b.downed l a.stamped a.logged) drop
     ∙ ap (λ (s : Option Ts). f b.downed b.dropped s a.logged) stamp ∙ ap (λ (m : List (Service × Entry)). f b.downed b.dropped b.stamped m) log
 
@@ -54,7 +54,7 @@ parts_same : (a b : Step) → a.put ≡ b.put → a.control ≡ b.control → a.
 parts_same a b put control down drop stamp fate log note lost out =
     let f1 : a ≡ record a { put = b.put } = ap (λ (x : List (LinkId × Packet)). record a { put = x }) put in
     let f2 : record a { put = b.put } ≡ record b { downed = a.downed; dropped = a.dropped; stamped = a.stamped; fate = a.fate; logged = a.logged; noted = a.noted; unrouted = a.unrouted; outcome = a.outcome } =
-        ap (λ (x : List Addressed). record a { put = b.put; control = x }) control in
+    ap (λ (x : List Addressed). record a { put = b.put; control = x }) control in
     let f3 = ap (λ (x : List (LinkId × Ts)). record b { downed = x; dropped = a.dropped; stamped = a.stamped; fate = a.fate; logged = a.logged; noted = a.noted; unrouted = a.unrouted; outcome = a.outcome }) down in
     let f4 = ap (λ (x : List LinkId). record b { dropped = x; stamped = a.stamped; fate = a.fate; logged = a.logged; noted = a.noted; unrouted = a.unrouted; outcome = a.outcome }) drop in
     let f5 = ap (λ (x : Option Ts). record b { stamped = x; fate = a.fate; logged = a.logged; noted = a.noted; unrouted = a.unrouted; outcome = a.outcome }) stamp in
@@ -92,7 +92,7 @@ record_same : (graph : Graph) (past : List Record) (r s : Record) → r.event �
 record_same graph past r s event sr ss =
     let took : r.took ≡ s.took = ap (λ (x : Took). x) (sr.took_is ∙ ap (λ (e : Event). took_of past e) event ∙ sym ss.took_is) in
     let moved : IsStep graph past (of s.event s.took r.step) =
-        subst (λ (t : Took). IsStep graph past (of s.event t r.step)) took (subst (λ (e : Event). IsStep graph past (of e r.took r.step)) event sr) in
+    subst (λ (t : Took). IsStep graph past (of s.event t r.step)) took (subst (λ (e : Event). IsStep graph past (of e r.took r.step)) event sr) in
     let steps : r.step ≡ s.step = step_same graph past s.event s.took r.step s.step moved ss in
     ap (λ (e : Event). of e r.took r.step) event ∙ ap (λ (t : Took). of s.event t r.step) took ∙ ap (λ (x : Step). of s.event s.took x) steps
 

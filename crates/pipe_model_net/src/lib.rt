@@ -15,5 +15,4 @@ pub fn every_run_is_genuine()
 /// The events determine a run: two runs of the same events over the same graph are equal, record by record.
 pub fn events_determine_a_run()
     ensures { (graph : Graph) (one other : List Record) → IsHistory graph one → IsHistory graph other → map event_of one ≡ map event_of other → one ≡ other }
-{
-}
+{}

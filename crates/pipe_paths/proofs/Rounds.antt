@@ -90,7 +90,7 @@ is_reach g by a b (l ∷ ls) graph path =
 pub fed_along : (g : Graph) (by : ℕ → Bool) (a b l : ℕ) (before after : List ℕ) → IsGraph g → IsPath g by a b (before ++ l ∷ after) → feeds g by a l ≡ true
 fed_along g by a b l before after graph path =
     elim (path_to_link g by a b l before after path) [
-      inl first ↦ or_left (a == tail_of g l) (is_half g (tail_of g l) && reaches g by a (tail_of g l)) (eq-eqb a (tail_of g l) first)
-    | inr later ↦ or_right (a == tail_of g l) (is_half g (tail_of g l) && reaches g by a (tail_of g l))
-        (and_both (is_half g (tail_of g l)) (reaches g by a (tail_of g l)) later.0 (is_reach g by a (tail_of g l) before graph later.1))
+      | inl first ↦ or_left (a == tail_of g l) (is_half g (tail_of g l) && reaches g by a (tail_of g l)) (eq-eqb a (tail_of g l) first)
+      | inr later ↦ or_right (a == tail_of g l) (is_half g (tail_of g l) && reaches g by a (tail_of g l))
+          (and_both (is_half g (tail_of g l)) (reaches g by a (tail_of g l)) later.0 (is_reach g by a (tail_of g l) before graph later.1))
     ]

@@ -38,8 +38,8 @@ begins_alike : (g : Graph) (s t : ℕ → Bool) (n dst l : ℕ) → AreAlike g s
 begins_alike g s t n dst l alike lt =
     let used : s l ≡ t l = alike l lt in
     let counts =
-      any_below_alike (λ (k : ℕ). leads_within g s dst k (head_of g l) && not (comes_within g s dst n k)) (λ (k : ℕ). leads_within g t dst k (head_of g l) && not (comes_within g t dst n k)) (suc g.nodes)
-      (λ k k_lt. λ i. leads_within_alike g s t dst alike k (head_of g l) i && not (comes_within_alike g s t dst n alike k i)) in
+    any_below_alike (λ (k : ℕ). leads_within g s dst k (head_of g l) && not (comes_within g s dst n k)) (λ (k : ℕ). leads_within g t dst k (head_of g l) && not (comes_within g t dst n k)) (suc g.nodes)
+    (λ k k_lt. λ i. leads_within_alike g s t dst alike k (head_of g l) i && not (comes_within_alike g s t dst n alike k i)) in
     λ i. used i && counts i
 
 pub firsts_alike : (g : Graph) (s t : ℕ → Bool) (n dst : ℕ) → AreAlike g s t → firsts_of g s n dst ≡ firsts_of g t n dst
@@ -69,9 +69,9 @@ picked_is_route g by n src dst = pick (nat_lt dst g.hosts) refl
         ∙ ap (λ (b : Bool). if b then in_turn (firsts_of g by n dst) (src + dst) else None) (sym is)
     pick false is =
         let outside : g.hosts ≤ dst = elim (leb_tells (suc dst) g.hosts) [
-            inl below ↦ absurd (true≢false (sym (lt-ltb dst g.hosts (omega (arith, below.1))) ∙ is))
+          | inl below ↦ absurd (true≢false (sym (lt-ltb dst g.hosts (omega (arith, below.1))) ∙ is))
           | inr above ↦ omega (arith, above.1)
-          ] in
+        ] in
         let size = length-map-range_with_len (λ (k : ℕ). firsts_of g by n k) 0 g.hosts in
         ap (λ (ls : List LinkId). in_turn ls (src + dst)) (get_or_past (firsts_by_host g by n) dst [] (omega arith))
         ∙ ap (λ (b : Bool). if b then in_turn (firsts_of g by n dst) (src + dst) else None) (sym is)
@@ -81,15 +81,15 @@ pub first_begins : (g : Graph) (by : ℕ → Bool) (n dst l : ℕ) → Contains 
 first_begins g by n dst l listed =
     let P : LinkId → Type 0 = λ (k : LinkId). (begins_shortest g by n dst k.0 ≡ true) in
     let begins : begins_shortest g by n dst l ≡ true =
-      All-contains P (firsts_of g by n dst) (link_id l) (filter_passes (λ (k : LinkId). begins_shortest g by n dst k.0) (outs_of g n)) listed in
+    All-contains P (firsts_of g by n dst) (link_id l) (filter_passes (λ (k : LinkId). begins_shortest g by n dst k.0) (outs_of g n)) listed in
     let Q : LinkId → Type 0 = λ (k : LinkId). (k.0 < length g.links) × (tail_of g k.0 ≡ n) in
     let out : Q (link_id l) =
-      All-contains Q (firsts_of g by n dst) (link_id l) (All-filter (λ (k : LinkId). begins_shortest g by n dst k.0) Q (outs_of g n) (outs_all g n Q (λ k lt is. (lt, is)))) listed in
+    All-contains Q (firsts_of g by n dst) (link_id l) (All-filter (λ (k : LinkId). begins_shortest g by n dst k.0) Q (outs_of g n) (outs_all g n Q (λ k lt is. (lt, is)))) listed in
     begins_gives g by n dst l out.0 out.1 begins
 
 pub begins_is_first : (g : Graph) (by : ℕ → Bool) (n dst l : ℕ) → IsGraph g → BeginsShortest g by n dst l → Contains (firsts_of g by n dst) (link_id l)
 begins_is_first g by n dst l graph is =
     let listed = listed_contains (λ (k : LinkId). tail_of g k.0 == n) (length g.links) l is.path.0.known (eq-eqb (tail_of g l) n is.path.0.begins) in
     let at = filter_all (λ (k : LinkId). begins_shortest g by n dst k.0) (Contains (firsts_of g by n dst)) (outs_of g n) (All-contains_itself (firsts_of g by n dst)) listed.0 (link_id l) listed.1
-      (subst (λ (k : LinkId). begins_shortest g by n dst k.0 ≡ true) (sym listed.2) (begins_from g by n dst l graph is)) in
+    (subst (λ (k : LinkId). begins_shortest g by n dst k.0 ≡ true) (sym listed.2) (begins_from g by n dst l graph is)) in
     subst (Contains (firsts_of g by n dst)) listed.2 at

@@ -41,11 +41,11 @@ least_more g by away n nearest links i l is i_lt item lt begins = pick (by l) re
         let Near : LinkId → Type 0 = λ (k : LinkId). by k.0 ≡ true → least ≤ away_of away (head_of g k.0) in
         rw used record {
           least = All-more Near links i (link_id 0) i_lt (All-weaker Before Near (λ k before k_used. let b = before k_used in omega arith) (take i links) is.least)
-            (subst Near (sym item) (λ k_used. omega arith));
+              (subst Near (sym item) (λ k_used. omega arith));
           reached = elim (leb_tells nearest (away_of away (head_of g l))) [
-              inl before ↦ subst (λ (m : ℕ). (m ≡ far) ⊎ ((k : ℕ) × IsNearest g by away n m k)) (kept before.1) is.reached
+            | inl before ↦ subst (λ (m : ℕ). (m ≡ far) ⊎ ((k : ℕ) × IsNearest g by away n m k)) (kept before.1) is.reached
             | inr closer ↦ inr (l, record { known = lt; begins = begins; used = used; away_is = omega (arith, closer.1) })
-            ];
+          ];
         }
       where
         kept : {m : ℕ} → nearest ≤ m → nearest ≡ min nearest m
@@ -86,13 +86,13 @@ module _ (g : Graph) (by : ℕ → Bool) (n dst nearest : ℕ) (away : List ℕ)
       let least = right.least (head_of g l) is.rest is.path.1 in
       let low = none_nearer l is.path.0 in
       let high : away_of away (head_of g l) ≤ nearest = elim near.reached [
-          inl none ↦ omega (arith, none)
+        | inl none ↦ omega (arith, none)
         | inr found ↦
             let at = found.1 in
             let way = right.found (head_of g found.0) (omega (arith, at.away_is)) in
             let shortest = is.least (found.0 ∷ way.0) (record { known = at.known; used = at.used; begins = at.begins }, way.1) in
             omega (arith, at.away_is, way.2)
-        ] in
+      ] in
       and_both (by l && (away_of away (head_of g l) == nearest)) (nat_lt nearest far)
       (and_both (by l) (away_of away (head_of g l) == nearest) is.path.0.used (eq-eqb (away_of away (head_of g l)) nearest (omega arith)))
       (lt-ltb nearest far (omega arith))
@@ -101,10 +101,10 @@ module _ (g : Graph) (by : ℕ → Bool) (n dst nearest : ℕ) (away : List ℕ)
   firsts_are =
       filter_alike (λ (l : LinkId). is_first g by away nearest l.0) (λ (l : LinkId). begins_shortest g by n dst l.0) (outs_of g n)
       (outs_all g n (λ (l : LinkId). is_first g by away nearest l.0 ≡ begins_shortest g by n dst l.0)
-          (λ l lt begins.
-            same_tests (is_first g by away nearest l) (begins_shortest g by n dst l)
-            (λ is. begins_from g by n dst l graph (first_gives l lt begins is))
-            (λ is. first_from l (begins_gives g by n dst l lt begins is))))
+      (λ l lt begins.
+      same_tests (is_first g by away nearest l) (begins_shortest g by n dst l)
+      (λ is. begins_from g by n dst l graph (first_gives l lt begins is))
+      (λ is. first_from l (begins_gives g by n dst l lt begins is))))
 
 -- each link out of a node begins there
 pub outs_begin : (g : Graph) (n : ℕ) (links : List LinkId) → links ≡ outs_of g n → (i : ℕ) → i < length links → tail_of g (get_or links i (link_id 0)).0 ≡ n

@@ -79,13 +79,7 @@ fn nearer(topology: &Topology, by: &LinkSet, link: LinkId, nearest: u16, away: &
     }
 }
 
-fn is_first(
-    topology: &Topology,
-    by: &LinkSet,
-    link: LinkId,
-    nearest: u16,
-    away: &Distances,
-) -> bool
+fn is_first(topology: &Topology, by: &LinkSet, link: LinkId, nearest: u16, away: &Distances) -> bool
     requires link { link.0 < length topology.now.links }
     requires links { length by.now ≡ length topology.now.links }
     requires size { length away.now ≡ topology.now.nodes }

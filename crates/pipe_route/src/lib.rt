@@ -3,5 +3,7 @@
 
 mod firsts;
 mod routes;
+#[cfg(test)]
+mod tests;
 
 pub use routes::Routes;

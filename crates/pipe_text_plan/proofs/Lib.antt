@@ -5,3 +5,4 @@ pub mod ReadLaws
 pub mod KeyLaws
 pub mod StarLaws
 pub mod NameLaws
+pub mod DescribeLaws

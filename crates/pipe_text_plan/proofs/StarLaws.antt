@@ -27,7 +27,7 @@ star_long (star ∷ hosts ∷ []) many = absurd (omega arith)
 star_long (star ∷ hosts ∷ patience ∷ []) many = absurd (omega arith)
 star_long (star ∷ hosts ∷ patience ∷ another ∷ words) many = refl
 
-not_true : (t : Bool) → (t ≡ true → ⊥) → t ≡ false
+pub not_true : (t : Bool) → (t ≡ true → ⊥) → t ≡ false
 not_true true never = absurd (never refl)
 not_true false never = refl
 

@@ -1,3 +1,4 @@
+pub mod DigitLaws
 pub mod FaultLaws
 pub mod FirstLaws
 pub mod LinkLaws

@@ -1,3 +1,4 @@
+pub mod Digits
 pub mod Fault
 pub mod First
 pub mod Names

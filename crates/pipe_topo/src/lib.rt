@@ -6,17 +6,23 @@ mod apart;
 mod build;
 mod distances;
 mod fault;
+mod hosts;
+mod laws;
 mod links;
 mod names;
 mod plan;
 mod reach;
 mod shape;
 mod tables;
+#[cfg(test)]
+mod tests;
 mod topology;
 mod walk;
 
 pub use distances::{Distances, FAR};
 pub use fault::{TopoFault, What};
+pub use hosts::HostSet;
+pub use laws::{no_fault_joins_all, plans_are_mirrored};
 pub use links::LinkSet;
 pub use names::Names;
 pub use plan::{Cable, CableEnd, CableList, LevelList, Plan};

@@ -1,4 +1,7 @@
 // A plan of a network: hosts, switches with levels, and the cables between them.
+ghost use Rattle.std.specs.Prelude.{◌↔◌, IsTrue};
+ghost use Rattle.pipe_topo.specs.Plan.{IsEnd};
+
 use pipe_base::{List, NoMemory, Ts};
 use std::alloc::Global;
 
@@ -29,7 +32,8 @@ pub struct Plan {
 }
 
 impl Plan {
-    ghost use Rattle.std.specs.Prelude.{◌≡◌, IfOk};
+    ghost use Rattle.std.specs.Prelude.{◌≡◌, ◌↔◌, length, IfOk, IsTrue};
+    ghost use Rattle.pipe_topo.specs.Plan.{HasEnds};
     ghost use Rattle.pipe_topo.specs.Star.{star_plan};
 
     /// So many hosts at one switch of level 1, with a cable per host in order.
@@ -50,9 +54,28 @@ impl Plan {
         })
     }
 
+    /// Each cable joins what the plan has. A topology is built of such plans alone.
+    pub fn has_ends(&self) -> bool
+        ensures { IsTrue result ↔ HasEnds self.now.hosts (length self.now.levels) self.now.cables }
+    {
+        let switches = self.levels.len();
+        let cables = self.cables.as_slice();
+        cables.iter().all(|c| has_end(self.hosts, switches, c.0)
+            && has_end(self.hosts, switches, c.1))
+    }
+
     pub fn try_clone(&self) -> Result<Plan, NoMemory>
         ensures { IfOk result (λ copy. copy ≡ self.now) }
     {
         Ok(self.clone()?)
+    }
+}
+
+fn has_end(hosts: u16, switches: usize, end: CableEnd) -> bool
+    ensures { IsTrue result ↔ IsEnd hosts switches end }
+{
+    match end {
+        CableEnd::Host(host) => host < hosts,
+        CableEnd::Switch(switch) => usize::from(switch) < switches,
     }
 }

@@ -9,5 +9,5 @@ pub returns-clause-route : goal.returns-clause-route
 returns-clause-route c = λ graph by is.
     c.picked.ensures
     ∙ ap (λ (links : List (List LinkId)). picked links c.args.src.0 c.args.dst.0)
-      (c.deref.ensures.value ∙ ap (λ (r : Routing). r.links) c.self.view_is ∙ ap (λ (r : Routing). r.links) is)
+    (c.deref.ensures.value ∙ ap (λ (r : Routing). r.links) c.self.view_is ∙ ap (λ (r : Routing). r.links) is)
     ∙ picked_is_route graph by c.args.self.now.node c.args.src.0 c.args.dst.0

@@ -1,0 +1,31 @@
+// That copies succeed with ample memory.
+
+use crate::{Event, Record, Took};
+use pipe_base::{NodeId, Step, Ts};
+use std::test::Fail;
+
+#[test]
+fn events_and_records_are_copied(rt: HostRuntime) -> Result<(), Fail> {
+    let alloc = rt.alloc();
+    let tick = Event::Tick {
+        node: NodeId(3),
+        now: Ts(40),
+    };
+    let record = Record {
+        event: tick.try_clone()?,
+        took: Took::Nothing.try_clone()?,
+        step: Step::new(alloc),
+    };
+    let copy = record.try_clone()?;
+    assert!(rt;
+        matches!(
+            copy.event,
+            Event::Tick {
+                node: NodeId(3),
+                now: Ts(40)
+            }
+        )
+    );
+    assert!(rt; matches!(copy.took, Took::Nothing));
+    Ok(())
+}

@@ -1,0 +1,71 @@
+// A set of hosts.
+ghost use Rattle.std.specs.Prelude.{◌≡◌, ◌-◌, ◌<◌, ◌≤◌, ◌++◌, Bool, List, length, replicate, slice_set, true, false};
+ghost use Rattle.pipe_topo.specs.Sets.{has};
+
+use pipe_base::HostId;
+use std::marker::Model;
+
+/// A set of host numbers below 64. Contracts see the answer for each of them.
+#[derive(Clone, Copy)]
+pub struct HostSet {
+    bits: u64,
+}
+
+impl Model for HostSet {
+    ghost use Rattle.std.specs.Prelude.{◌<◌, ◌^◌, Bool, List};
+    ghost use Rattle.pipe_topo.specs.Digits.{digits, number_of, number_of-digits};
+
+    ghost Value = { List Bool };
+
+    ghost view = { λ s. digits 64 s.bits };
+
+    ghost invariant = { λ s. s.bits < 2 ^ 64 };
+
+    ghost inverse = { λ d. record { bits = number_of d } };
+
+    ghost inverse_ok = { λ s h. λ i. record { bits = number_of-digits 64 s.bits h i } };
+}
+
+impl HostSet {
+    /// The empty set.
+    pub fn none() -> HostSet
+        ensures { result ≡ replicate 64 false }
+    {
+        HostSet { bits: 0 }
+    }
+
+    /// The hosts below `hosts`.
+    pub fn first(hosts: u16) -> HostSet
+        requires { hosts ≤ 64 }
+        ensures { result ≡ replicate hosts true ++ replicate (64 - hosts) false }
+    {
+        if hosts == 64 {
+            HostSet { bits: u64::MAX }
+        } else {
+            HostSet {
+                bits: (1 << hosts) - 1,
+            }
+        }
+    }
+
+    pub fn insert(&mut self, host: HostId)
+        requires { host.0 < 64 }
+        ensures { self.new ≡ slice_set self.old host.0 true }
+    {
+        self.bits |= 1 << host.0;
+    }
+
+    pub fn remove(&mut self, host: HostId)
+        requires { host.0 < 64 }
+        ensures { self.new ≡ slice_set self.old host.0 false }
+    {
+        self.bits &= !(1 << host.0);
+    }
+
+    pub fn has(&self, host: HostId) -> bool
+        requires { host.0 < 64 }
+        ensures { result ≡ has self.now host.0 }
+    {
+        self.bits & (1 << host.0) != 0
+    }
+}

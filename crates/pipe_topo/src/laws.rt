@@ -1,0 +1,19 @@
+// What every plan's graph has. Each law is a function that does nothing and ensures it.
+ghost use Rattle.std.specs.Prelude.{◌≡◌, None};
+ghost use Rattle.pipe_base.specs.Graph.{IsGraph};
+ghost use Rattle.pipe_base.specs.Reach.{JoinsAllHosts};
+ghost use Rattle.pipe_paths.specs.Mirror.{IsMirrored};
+ghost use Rattle.pipe_topo.specs.Fault.{fault_of};
+ghost use Rattle.pipe_topo.specs.Plan.{IsPlan, graph_of};
+ghost use Rattle.pipe_topo.specs.declared.plan.Plan.{Plan};
+
+/// A plan without a fault joins any two hosts both ways, and each host with itself.
+pub fn no_fault_joins_all()
+    ensures { (plan : Plan) → IsPlan plan → fault_of plan ≡ None → JoinsAllHosts (graph_of plan) }
+{}
+
+/// The graph of a plan joins its nodes alone, and for each link it has one that goes the other way.
+pub fn plans_are_mirrored()
+    ensures graph { (plan : Plan) → IsPlan plan → IsGraph (graph_of plan) }
+    ensures mirrored { (plan : Plan) → IsPlan plan → IsMirrored (graph_of plan) }
+{}
