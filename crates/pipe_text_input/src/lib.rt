@@ -1,0 +1,11 @@
+//! Inputs as they are read: a network with names and a schedule, or the first fault.
+#![tactic(auto)]
+
+mod input;
+mod read;
+
+pub use input::{Input, InputFault};
+pub use read::read_input;
+
+#[cfg(test)]
+mod tests;

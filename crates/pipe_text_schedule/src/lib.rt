@@ -1,0 +1,15 @@
+//! Schedules as they are read: each line as an event with the names of the network, or the first bad line with its first
+//! fault.
+#![tactic(auto)]
+
+mod event;
+mod exact;
+mod name;
+mod receivers;
+mod schedule;
+mod send;
+
+pub use schedule::{ScheduleFault, read_schedule};
+
+#[cfg(test)]
+mod tests;

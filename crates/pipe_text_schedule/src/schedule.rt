@@ -1,0 +1,96 @@
+// The lines of a schedule as events.
+ghost use Rattle.std.specs.Prelude.{◌≡◌, ◌+◌, ◌++◌, ◌≤◌, ℕ, All, true, false, length, IfOk, IfSome, IfNone, Ok, Err, OnOk};
+ghost use Rattle.std.specs.Option.{option_to_list};
+ghost use Rattle.std.specs.Str.Lines.{lines};
+ghost use Rattle.pipe_text.specs.declared.kind.LineKind.{LineKind as Kind};
+ghost use Rattle.pipe_text.specs.Words.{words_of, is_skipped};
+ghost use Rattle.pipe_text_schedule.specs.Line.{CanHappen, line_event};
+ghost use Rattle.pipe_text_schedule.specs.Schedule.{schedule_of};
+
+use crate::event::read_event;
+use pipe_base::{List, NoMemory};
+use pipe_model::{Event, EventList};
+use pipe_text::{LineKind, is_skipped, next_line, words_of};
+use pipe_topo::{Names, Topology};
+use std::alloc::Global;
+
+/// Why there are no events.
+#[derive(Clone, Copy, Debug, PartialEq, Eq)]
+pub enum ScheduleFault {
+    /// The first bad line, and the first fault of that line.
+    Line { line: u32, kind: LineKind },
+    NoMemory,
+}
+
+impl From<NoMemory> for ScheduleFault {
+    ghost use Rattle.std.specs.Prelude.{◌≡◌};
+    ghost use Rattle.pipe_text_schedule.specs.declared.schedule.ScheduleFault.TheVariants.{NoMemory};
+
+    ghost from_gives = { λ _ e. e ≡ NoMemory };
+
+    fn from(_: NoMemory) -> Self {
+        ScheduleFault::NoMemory
+    }
+}
+
+/// The events of a schedule whose first line has the number `first`.
+pub fn read_schedule(
+    alloc: Global,
+    names: &Names,
+    topology: &Topology,
+    text: &[u8],
+    first: u32,
+) -> Result<EventList, ScheduleFault>
+    requires { length text.now + first ≤ 4294967295 }
+    ensures events { IfOk result (λ events. schedule_of topology.now names.now first (lines text.now) ≡ Ok events) }
+    ensures known { IfOk result (All (CanHappen topology.now)) }
+    ensures fault { (line : ℕ) (kind : Kind) → result ≡ Err (ScheduleFault.Line line kind) → schedule_of topology.now names.now first (lines text.now) ≡ Err (line, kind) }
+{
+    let mut events = List::new(alloc);
+    let mut rest = text;
+    let mut line = first;
+    'lines: while !rest.is_empty() {
+        let (next, after) = next_line(rest);
+        let event = match read_line(alloc, names, topology, next, line) {
+            Ok(event) => event,
+            Err(fault) => return Err(fault),
+        };
+        add(&mut events, event)?;
+        rest = after;
+        line += 1;
+    }
+    Ok(events)
+}
+
+// Appends the event, where there is one.
+fn add(events: &mut EventList, event: Option<Event>) -> Result<(), NoMemory>
+    ensures { OnOk result (events.new ≡ events.old ++ option_to_list event) }
+{
+    match event {
+        Some(event) => events.push(event),
+        None => Ok(()),
+    }
+}
+
+// The event of the line with this number. None where the line is skipped.
+fn read_line(
+    alloc: Global,
+    names: &Names,
+    topology: &Topology,
+    text: &[u8],
+    line: u32,
+) -> Result<Option<Event>, ScheduleFault>
+    ensures event { IfOk result (λ event. IfSome event (λ e. (is_skipped (words_of text.now) ≡ false) × (line_event topology.now names.now (words_of text.now) ≡ Ok e))) }
+    ensures known { IfOk result (λ event. IfSome event (CanHappen topology.now)) }
+    ensures skipped { IfOk result (λ event. IfNone event (is_skipped (words_of text.now) ≡ true)) }
+    ensures fault { (at : ℕ) (kind : Kind) → result ≡ Err (ScheduleFault.Line at kind) → (at ≡ line) × ((is_skipped (words_of text.now) ≡ false) × (line_event topology.now names.now (words_of text.now) ≡ Err kind)) }
+{
+    let words = words_of(alloc, text)?;
+    if is_skipped(&words) {
+        return Ok(None);
+    }
+    match read_event(alloc, names, topology, &words)? {
+        Ok(event) => Ok(Some(event)),
+        Err(kind) => Err(ScheduleFault::Line { line, kind }),
+    }
+}

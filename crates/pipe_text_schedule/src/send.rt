@@ -1,0 +1,98 @@
+// The line of a send.
+ghost use Rattle.std.specs.Prelude.{◌≡◌, ◌<◌, ◌≤◌, [], length, map, IfOk};
+ghost use Rattle.pipe_text_schedule.specs.Line.{CanHappen};
+ghost use Rattle.pipe_text_schedule.specs.Named.{host_in};
+ghost use Rattle.pipe_text_schedule.specs.Receivers.{receivers_in};
+ghost use Rattle.pipe_text_schedule.specs.Send.{best_line, send_from, send_line, service_of};
+ghost use Rattle.pipe_text_schedule.specs.Tick.{reading_of};
+
+use crate::name::host_named;
+use crate::receivers::read_receivers;
+use pipe_base::{LAST_STAMP, NoMemory, Service, Ts};
+use pipe_model::Event;
+use pipe_text::{LineKind, read_number};
+use pipe_topo::{Names, Topology};
+use std::alloc::Global;
+
+// The most receivers of a send.
+const RECEIVER_LIMIT: usize = 16;
+
+/// `send HOST best READING HOST=BODY ..`, by the words after the verb.
+pub fn read_send(
+    alloc: Global,
+    names: &Names,
+    topology: &Topology,
+    words: &[&[u8]],
+) -> Result<Result<Event, LineKind>, NoMemory>
+    ensures event { IfOk result (λ read. read ≡ send_line topology.now names.now (map (λ word. word.now) words.now)) }
+    ensures known { IfOk result (λ read. IfOk read (CanHappen topology.now)) }
+{
+    let Some((host, words)) = words.split_first() else {
+        return Ok(Err(LineKind::Count));
+    };
+    let Some((service, words)) = words.split_first() else {
+        return Ok(Err(LineKind::Count));
+    };
+    if *service == b"reliable".as_slice() {
+        return Ok(Err(LineKind::Verb));
+    }
+    read_best(alloc, names, topology, host, service, words)
+}
+
+// The words after the service.
+fn read_best(
+    alloc: Global,
+    names: &Names,
+    topology: &Topology,
+    host: &[u8],
+    service: &[u8],
+    words: &[&[u8]],
+) -> Result<Result<Event, LineKind>, NoMemory>
+    ensures event { IfOk result (λ read. read ≡ best_line topology.now names.now host.now service.now (map (λ word. word.now) words.now)) }
+    ensures known { IfOk result (λ read. IfOk read (CanHappen topology.now)) }
+{
+    let Some((now, receivers)) = words.split_first() else {
+        return Ok(Err(LineKind::Count));
+    };
+    if receivers.is_empty() {
+        return Ok(Err(LineKind::Count));
+    }
+    if receivers.len() > RECEIVER_LIMIT {
+        return Ok(Err(LineKind::Receivers));
+    }
+    read_fields(alloc, names, topology, host, service, now, receivers)
+}
+
+// The words of a send in order, of which there are as many as it wants.
+fn read_fields(
+    alloc: Global,
+    names: &Names,
+    topology: &Topology,
+    host: &[u8],
+    service: &[u8],
+    now: &[u8],
+    receivers: &[&[u8]],
+) -> Result<Result<Event, LineKind>, NoMemory>
+    requires { (0 < length receivers.now) × (length receivers.now ≤ 16) }
+    ensures event { IfOk result (λ read. read ≡ send_from (host_in topology.now names.now host.now) (service_of service.now) (reading_of now.now) (receivers_in topology.now names.now [] (map (λ word. word.now) receivers.now))) }
+    ensures known { IfOk result (λ read. IfOk read (CanHappen topology.now)) }
+{
+    let Some(host) = host_named(names, topology, host) else {
+        return Ok(Err(LineKind::Node));
+    };
+    if service != b"best".as_slice() {
+        return Ok(Err(LineKind::Service));
+    }
+    let Some(now) = read_number(now, LAST_STAMP) else {
+        return Ok(Err(LineKind::Number));
+    };
+    match read_receivers(alloc, names, topology, receivers)? {
+        Err(kind) => Ok(Err(kind)),
+        Ok(dests) => Ok(Ok(Event::Send {
+            host,
+            service: Service::BestEffort,
+            now: Ts(now),
+            dests,
+        })),
+    }
+}
