@@ -1,5 +1,5 @@
 // The two parts of an input: the topology, and what comes after it.
-ghost use Rattle.std.specs.Prelude.{◌≡◌, ◌<◌, ◌^◌, length, option_map};
+ghost use Rattle.std.specs.Prelude.{◌≡◌, ◌+◌, ◌<◌, ◌≤◌, ◌^◌, length, option_map, IfSome};
 ghost use Rattle.pipe_text.specs.Words.{words_of};
 ghost use Rattle.pipe_text_plan.specs.Pieces.{pieces};
 ghost use Rattle.pipe_text_plan.specs.Division.{is_mark, is_star, marked, division_of};
@@ -25,7 +25,8 @@ pub struct Parts<'a> {
 /// None where there is neither the line of a star nor a mark.
 pub fn parts_of(input: &[u8]) -> Option<Parts<'_>>
     requires { length input.now < 2 ^ 31 }
-    ensures { option_map division_view result ≡ division_of input.now }
+    ensures division { option_map division_view result ≡ division_of input.now }
+    ensures within { IfSome result (λ parts. parts.line + length parts.rest.now ≤ length input.now + 2) }
 {
     if input.is_empty() {
         return None;
@@ -46,7 +47,8 @@ pub fn parts_of(input: &[u8]) -> Option<Parts<'_>>
 // What is before the first mark and what is after it.
 fn around_mark(input: &[u8]) -> Option<Parts<'_>>
     requires { length input.now < 2 ^ 31 }
-    ensures { option_map division_view result ≡ marked (pieces input.now) }
+    ensures division { option_map division_view result ≡ marked (pieces input.now) }
+    ensures within { IfSome result (λ parts. parts.line + length parts.rest.now ≤ length input.now + 2) }
 {
     let mut rest = input;
     let mut passed = 0;
