@@ -1,5 +1,5 @@
 -- Lemmas on what a document describes.
-use Rattle.std.proofs.Common.{◌≡◌, ℕ, zero, suc, ◌+◌, ◌-◌, ◌<◌, ◌≤◌, Bool, true, false, cond, nat_lt, if◌then◌else◌, Bor, option_and_then, List, [], ◌∷◌, ◌++◌, length, map, get_or, position, Option, None, Some, Result, Ok, Err, option_map, refl, ap, sym, subst, ◌∙◌, arith, length-append}
+use Rattle.std.proofs.Common.{◌≡◌, ℕ, zero, suc, ◌+◌, ◌-◌, ◌<◌, ◌≤◌, Bool, true, false, cond, nat_lt, if◌then◌else◌, Bor, option_and_then, List, [], ◌∷◌, length, map, get_or, position, Option, None, Some, Result, Ok, Err, option_map, refl, ap, sym, subst, ◌∙◌, arith, length-append}
 use Rattle.std.specs.List.{All}
 use Rattle.std.specs.Str.{bytes_eq, is_utf8, IsUtf8}
 use Rattle.std.proofs.lemmas.Bool.Decides.{nat_tests}
@@ -15,7 +15,7 @@ use Rattle.pipe_topo.specs.Plan.{IsEnd, HasEnds}
 use Rattle.pipe_text_plan.specs.declared.fault.PlanFault.{PlanFault}
 use Rattle.pipe_text_plan.specs.declared.fault.PlanFault.TheVariants.{CableText, SwitchText}
 use Rattle.pipe_text_plan.specs.Cable.{end_at, end_of, both_ends, ends_of, cable_of, cables_of}
-use Rattle.pipe_text_plan.specs.Described.{Described, Document, built, with_cables, with_names, with_switches, all_names, crowded, uncrowded, described}
+use Rattle.pipe_text_plan.specs.Described.{Document, built, with_cables, with_names, with_switches, all_names, crowded, uncrowded, described}
 use Rattle.pipe_text_plan.specs.Keys.{document_of}
 use Rattle.pipe_text_plan.specs.Numbering.{numbered, numbered_unless, first_wrong}
 use Rattle.pipe_text_plan.specs.ReadAll.{read_onto, read_all, faulted}

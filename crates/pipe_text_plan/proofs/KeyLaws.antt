@@ -1,5 +1,5 @@
 -- Lemmas on the keys of a document and on arrays of texts.
-use Rattle.std.proofs.Common.{◌≡◌, not, ◌||◌, ℕ, List, [], ◌∷◌, ◌++◌, map, Option, None, Some, option_map, String, Global, string_bytes, Bor, nat_cmp, refl, ap, sym, ◌∙◌, append_assoc}
+use Rattle.std.proofs.Common.{◌≡◌, not, ◌||◌, ℕ, List, [], ◌∷◌, ◌++◌, Option, None, Some, option_map, String, Global, string_bytes, Bor, nat_cmp, refl, ap, sym, ◌∙◌, append_assoc}
 use Rattle.std.specs.List.{list_any}
 use Rattle.std.specs.BTreeMap.{is_at}
 use Rattle.std.specs.Cmp.Lexicographic.{slice_cmp}

@@ -1,5 +1,5 @@
 -- Lemmas on the lines before the mark.
-use Rattle.std.proofs.Common.{◌≡◌, ℕ, zero, suc, ◌+◌, ◌-◌, ◌<◌, ◌≤◌, Bool, true, false, cond, List, [], ◌∷◌, ◌++◌, length, take, drop, get_or, not, None, Some, refl, ap, subst, sym, ◌∙◌, arith, append_assoc, length-append, nat_lt, if◌then◌else◌}
+use Rattle.std.proofs.Common.{◌≡◌, ℕ, suc, ◌+◌, ◌-◌, ◌<◌, ◌≤◌, Bool, true, false, cond, List, [], ◌∷◌, ◌++◌, length, take, drop, not, None, Some, refl, ap, sym, ◌∙◌, arith, append_assoc, length-append, nat_lt, if◌then◌else◌}
 use Rattle.std.specs.List.{position, position_or_len, concat}
 use Rattle.std.proofs.lemmas.Bool.Decides.{nat_tests}
 use Rattle.std.proofs.lemmas.List.{append-nil}
@@ -7,7 +7,7 @@ use Rattle.std.proofs.lemmas.List.Folds.{concat-append}
 use Rattle.std.specs.Str.Lines.{lines}
 use Rattle.pipe_text.specs.Words.{words_of}
 use Rattle.pipe_text_plan.specs.Pieces.{pieces}
-use Rattle.pipe_text_plan.specs.Division.{Division, is_mark, is_star, marked, marked_at, division_of, division_by}
+use Rattle.pipe_text_plan.specs.Division.{is_mark, is_star, marked, marked_at, division_of, division_by}
 use Rattle.pipe_text_plan.proofs.PieceLaws.{concat-pieces}
 
 -- So many lines of the input are before the rest, and none of them is the mark.

@@ -1,12 +1,12 @@
 -- Lemmas on the numbers of names.
-use Rattle.std.proofs.Common.{◌≡◌, ℕ, zero, suc, ◌+◌, ◌<◌, ◌≤◌, Bool, true, false, not, ◌||◌, if◌then◌else◌, List, [], ◌∷◌, ◌++◌, length, take, get_or, map, Option, None, Some, Err, Ok, refl, ap, sym, subst, ◌∙◌, arith}
+use Rattle.std.proofs.Common.{◌≡◌, ℕ, zero, suc, ◌+◌, ◌<◌, ◌≤◌, Bool, true, false, not, ◌||◌, if◌then◌else◌, List, [], ◌∷◌, ◌++◌, length, take, get_or, map, None, Err, Ok, refl, ap, sym, subst, ◌∙◌, arith}
 use Rattle.std.specs.List.{list_any}
 use Rattle.std.specs.Str.{bytes_eq}
 use Rattle.std.proofs.lemmas.List.{take_more, take_all, length_push}
 use Rattle.pipe_topo.specs.First.{first_below}
 use Rattle.pipe_topo.proofs.FirstLaws.{first_more, first_at}
 use Rattle.pipe_text_plan.specs.Name.{is_name}
-use Rattle.pipe_text_plan.specs.Numbering.{is_wrong, first_wrong, numbered, numbered_unless}
+use Rattle.pipe_text_plan.specs.Numbering.{is_wrong, numbered, numbered_unless}
 use Rattle.pipe_text_plan.specs.declared.fault.PlanError.{PlanError}
 use Rattle.pipe_text_plan.specs.declared.fault.PlanError.TheVariants.{Plan}
 use Rattle.pipe_text_plan.specs.declared.fault.PlanFault.{PlanFault}

@@ -1,6 +1,5 @@
 -- Lemmas on stars.
-use Rattle.std.proofs.Common.{◌≡◌, ℕ, zero, suc, ◌+◌, ◌<◌, ◌≤◌, ◌^◌, Bool, true, false, not, if◌then◌else◌, List, [], ◌∷◌, ◌++◌, length, drop, get_or, map, None, refl, ap, sym, subst, ◌∙◌, arith, codes}
-use Rattle.std.specs.Fmt.{decimal}
+use Rattle.std.proofs.Common.{◌≡◌, ℕ, ◌+◌, ◌<◌, ◌≤◌, ◌^◌, Bool, true, false, not, if◌then◌else◌, List, [], ◌∷◌, ◌++◌, length, drop, map, None, refl, ap, sym, subst, ◌∙◌, arith, codes}
 use Rattle.std.specs.List.{list_any, range_with_len}
 use Rattle.std.specs.Str.{bytes_eq}
 use Rattle.std.proofs.lemmas.Fmt.{decimal_injective}
@@ -9,7 +8,6 @@ use Rattle.std.proofs.lemmas.List.FromFn.{get_or-map-range_with_len, length-map-
 use Rattle.std.proofs.lemmas.List.Folds.{list_any_none}
 use Rattle.std.proofs.lemmas.Slice.Eq.{bytes_eq-Decides}
 use Rattle.pipe_topo.specs.declared.plan.CableEnd.{CableEnd}
-use Rattle.pipe_topo.specs.declared.plan.CableEnd.TheVariants.{Host, Switch}
 use Rattle.pipe_topo.specs.Plan.{IsEnd, HasEnds}
 use Rattle.pipe_topo.specs.Star.{host_cable}
 use Rattle.pipe_text_plan.specs.Star.{star_of, host_name}

@@ -1,7 +1,6 @@
 -- What a topology part describes, or its first fault.
-use Rattle.std.specs.Prelude.{ℕ, min, nat_lt, ◌≤◌, Bool, if◌then◌else◌, List, ◌++◌, length, map, codes, Option, None, Some, Result, Ok, Err}
+use Rattle.std.specs.Prelude.{ℕ, min, nat_lt, ◌≤◌, if◌then◌else◌, List, ◌++◌, length, map, codes, Option, None, Some, Result, Ok, Err}
 use Rattle.toml.specs.Data.{Members}
-use Rattle.pipe_base.specs.declared.name.Ts.{Ts}
 use Rattle.pipe_text.specs.Words.{words_of}
 use Rattle.pipe_topo.specs.declared.fault.TopoFault.{TopoFault}
 use Rattle.pipe_topo.specs.declared.fault.TopoFault.TheVariants.{TooMany}
@@ -12,7 +11,6 @@ use Rattle.pipe_topo.specs.declared.plan.Plan.{Plan}
 use Rattle.pipe_topo.specs.Fault.{fault_of}
 use Rattle.pipe_topo.specs.First.{first_of}
 use Rattle.pipe_topo.specs.Star.{star_plan}
-use Rattle.pipe_text_plan.specs.declared.fault.KeyName.{KeyName}
 use Rattle.pipe_text_plan.specs.declared.fault.KeyName.TheVariants as key
 use Rattle.pipe_text_plan.specs.declared.fault.PlanFault.{PlanFault}
 use Rattle.pipe_text_plan.specs.declared.fault.PlanFault.TheVariants.{Star, NotToml, Extra, Shape, Topo}

@@ -1,7 +1,7 @@
 -- Arrays of texts, and a text in two.
 use Rattle.std.specs.Prelude.{ℕ, ◌==◌, nat_lt, Bool, if◌then◌else◌, List, [], ◌∷◌, length, Option, None, Some}
 use Rattle.std.specs.List.{position_or_len, before_first, after_first}
-use Rattle.toml.specs.Data.{Data, Items, no_items, item, as_str}
+use Rattle.toml.specs.Data.{Items, no_items, item, as_str}
 
 -- a text before others, where all are there
 abbrev pub text_onto : Option (List ℕ) → Option (List (List ℕ)) → Option (List (List ℕ))

@@ -1,6 +1,5 @@
 -- What the types of the code stand for.
-use Rattle.std.specs.Prelude.{ℕ, List, map, Vec, Option, option_map}
-use Rattle.std.specs.declared.alloc.Global.{Global}
+use Rattle.std.specs.Prelude.{map}
 use Rattle.pipe_text_plan.specs.declared.division.Parts.{Parts}
 use Rattle.pipe_text_plan.specs.declared.document.Texts.{Texts}
 use Rattle.pipe_text_plan.specs.declared.read.PlanInput.{PlanInput}

@@ -1,4 +1,4 @@
-use Rattle.std.proofs.Common.{ap, sym, ◌∙◌, option_map, option_and_then}
+use Rattle.std.proofs.Common.{ap, sym, ◌∙◌, option_and_then}
 use Rattle.toml.specs.Data.{as_array}
 use Rattle.pipe_text_plan.proofs.KeyLaws.{member_none, member_some}
 use Rattle.pipe_text_plan.proofs.array.array_at.Goals as goal

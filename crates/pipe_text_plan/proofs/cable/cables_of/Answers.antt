@@ -1,4 +1,4 @@
-use Rattle.std.proofs.Common.{◌≡◌, ◌+◌, ◌∷◌, [], List, ℕ, Bor, map, drop, get_or, ap, sym, subst, ◌∙◌, Err, arith}
+use Rattle.std.proofs.Common.{◌≡◌, ◌+◌, [], List, ℕ, Bor, map, drop, get_or, ap, sym, subst, ◌∙◌, Err, arith}
 use Rattle.pipe_topo.specs.declared.plan.CableEnd.{CableEnd}
 use Rattle.pipe_text_plan.specs.declared.fault.PlanFault.TheVariants.{CableText}
 use Rattle.pipe_text_plan.specs.Cable.{cable_of}

@@ -1,7 +1,7 @@
-use Rattle.std.proofs.Common.{◌≡◌, ◌<◌, [], List, ℕ, Bor, map, get_or, length, ap, sym, ◌∙◌, Err, ◌++◌, ◌∷◌, if◌then◌else◌}
+use Rattle.std.proofs.Common.{◌≡◌, [], List, ℕ, Bor, map, get_or, length, ap, sym, ◌∙◌, Err, ◌++◌, ◌∷◌, if◌then◌else◌}
 use Rattle.std.proofs.lemmas.List.{length-map}
 use Rattle.pipe_text_plan.specs.declared.fault.PlanFault.TheVariants.{Name}
-use Rattle.pipe_text_plan.proofs.NameLaws.{map_at, no_name, old_name, new_name, all_right, one_fault}
+use Rattle.pipe_text_plan.proofs.NameLaws.{map_at, no_name, old_name, new_name, one_fault}
 use Rattle.pipe_text_plan.proofs.number.numbered.Goals as goal
 
 abbrev now_of : Bor (List ℕ) → List ℕ

@@ -1,4 +1,4 @@
-use Rattle.std.proofs.Common.{◌≡◌, ◌+◌, ◌<◌, ◌≤◌, List, ℕ, Bor, Option, None, Result, Ok, Err, map, length, ap, sym, subst, ◌∙◌, arith, length-append}
+use Rattle.std.proofs.Common.{◌≡◌, ◌+◌, List, ℕ, Bor, None, Result, Ok, Err, map, length, ap, sym, subst, ◌∙◌, arith, length-append}
 use Rattle.std.specs.Result.{IfOk, IfErr}
 use Rattle.std.proofs.lemmas.List.{length-map}
 use Rattle.pipe_topo.specs.declared.plan.CableEnd.{CableEnd}

@@ -1,15 +1,13 @@
-use Rattle.std.proofs.Common.{◌≡◌, List, ℕ, Result, Err, Some, map, length, ap, sym, subst, ◌∙◌}
+use Rattle.std.proofs.Common.{◌≡◌, Result, Err, map, length, ap, sym, subst, ◌∙◌}
 use Rattle.std.specs.Result.{IfOk, IfErr}
-use Rattle.pipe_base.specs.declared.name.Ts.{Ts}
 use Rattle.pipe_text.specs.Words.{words_of}
 use Rattle.pipe_topo.specs.declared.plan.Plan.{Plan as Network}
 use Rattle.pipe_topo.specs.Plan.{HasEnds}
-use Rattle.pipe_topo.specs.Star.{star_plan}
 use Rattle.pipe_text_plan.specs.declared.fault.PlanError.TheVariants.{Plan}
 use Rattle.pipe_text_plan.specs.declared.fault.PlanFault.{PlanFault}
 use Rattle.pipe_text_plan.specs.Described.{Described, built, star_described}
 use Rattle.pipe_text_plan.specs.Input.{IsInput}
-use Rattle.pipe_text_plan.specs.Star.{star_of, star_names}
+use Rattle.pipe_text_plan.specs.Star.{star_of}
 use Rattle.pipe_text_plan.proofs.StarLaws.{star_ends}
 use Rattle.pipe_text_plan.proofs.read.read_star.Goals as goal
 

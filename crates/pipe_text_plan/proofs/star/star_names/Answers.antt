@@ -1,4 +1,4 @@
-use Rattle.std.proofs.Common.{◌≡◌, ◌<◌, ◌^◌, length, codes, refl, ap, ◌∙◌, arith}
+use Rattle.std.proofs.Common.{◌≡◌, codes, refl, ap, ◌∙◌, arith}
 use Rattle.pipe_text_plan.specs.Star.{star_names}
 use Rattle.pipe_text_plan.proofs.StarLaws.{host_more, switch_last, hosts_size}
 use Rattle.pipe_text_plan.proofs.star.star_names.Goals as goal

@@ -1,4 +1,4 @@
-use Rattle.std.proofs.Common.{List, ℕ, map, sym}
+use Rattle.std.proofs.Common.{map, sym}
 use Rattle.std.proofs.lemmas.List.{length-map}
 use Rattle.pipe_text_plan.proofs.StarLaws.{star_short, star_long}
 use Rattle.pipe_text_plan.proofs.star.star_of.Goals as goal

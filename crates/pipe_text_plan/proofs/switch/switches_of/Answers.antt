@@ -1,4 +1,4 @@
-use Rattle.std.proofs.Common.{◌≡◌, ◌+◌, ◌++◌, ◌∷◌, [], List, ℕ, Bor, Some, map, drop, get_or, option_map, ap, sym, subst, ◌∙◌, Err, arith}
+use Rattle.std.proofs.Common.{◌≡◌, ◌+◌, ◌++◌, ◌∷◌, [], List, ℕ, Bor, map, drop, get_or, option_map, ap, sym, subst, ◌∙◌, Err, arith}
 use Rattle.std.proofs.lemmas.List.{map-append}
 use Rattle.pipe_text_plan.specs.declared.fault.PlanFault.TheVariants.{SwitchText}
 use Rattle.pipe_text_plan.specs.Switch.{switch_of}
