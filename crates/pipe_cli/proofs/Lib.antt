@@ -1,6 +1,8 @@
+pub mod AnswerLaws
 pub mod FormLaws
 pub mod EventLaws
 pub mod ReceiverLaws
+pub mod RunLaws
 pub mod ScheduleLaws
 pub mod LogLaws
 pub mod OutsideLaws

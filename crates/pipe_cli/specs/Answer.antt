@@ -1,18 +1,23 @@
 -- What the status of a call has to do with what was read and written.
-use Rattle.std.specs.Prelude.{◌≡◌, ◌⊎◌, ℕ, ◌≤◌, List, length, take, Option, Some}
-use Rattle.std.specs.Io.KnownBytes.{Appends}
+use Rattle.std.specs.Prelude.{◌≡◌, ◌⊎◌, ℕ, ◌≤◌, List, length, reverse, take, Option, Some}
+use Rattle.std.specs.Io.KnownBytes.{Appends, Consumes, IsAtEnd}
 use Rattle.pipe_base.specs.Outside.{Rose}
+use Rattle.pipe_model.specs.declared.event.Event.{Event}
 use Rattle.pipe_model.specs.declared.record.Record.{Record}
 use Rattle.pipe_cli.specs.declared.status.Status.{Status}
 use Rattle.pipe_cli.specs.declared.status.Status.TheVariants.{Ok, Usage, ReadFault, WriteFault, BadTopology, BadSchedule, TooLong, NoMemory}
 use Rattle.pipe_cli.specs.Form.{IsReplayForm}
-use Rattle.pipe_cli.specs.Input.{status_of}
+use Rattle.pipe_cli.specs.Input.{IsInput, status_of}
+use Rattle.pipe_cli.specs.LogText.{log_text}
+use Rattle.pipe_cli.specs.Named.{Named}
 use Rattle.pipe_cli.specs.Read.{WasRead}
-use Rattle.pipe_cli.specs.Replay.{Replays}
+use Rattle.pipe_cli.specs.Replay.{IsOrderedRun}
 
 -- these bytes were read, and ask for this status
-abbrev pub Asks : Option (List ℕ) → Option (List ℕ) → Status → Type 0
-Asks left rest status = (bytes : List ℕ) × (WasRead left rest bytes × (status_of bytes ≡ status))
+pub record Asks (left rest : Option (List ℕ)) (status : Status) : Type 0 where
+  pub bytes : List ℕ
+  pub read : WasRead left rest bytes
+  pub asks : status_of bytes ≡ status
 
 -- A refusal of the input is that of its first fault; Ok and a failed write come where it has none.
 abbrev pub IsOfInput : Option (List ℕ) → Option (List ℕ) → Status → Type 0
@@ -26,12 +31,12 @@ IsOfInput left rest (TooLong what count) = Asks left rest (TooLong what count)
 IsOfInput left rest NoMemory = Unit {0}
 
 -- A read or a write failed only where that count rose; Ok comes only where none rose.
-pub record HasCause (status : Status) (read_before read_after write_before write_after : ℕ) : Type 0 where
+pub record IsCaused (status : Status) (read_before read_after write_before write_after : ℕ) : Type 0 where
   pub read : status ≡ ReadFault → Rose read_before read_after
   pub write : status ≡ WriteFault → Rose write_before write_after
   pub neither : status ≡ Ok → (read_after ≡ read_before) × (write_after ≡ write_before)
 
--- the text was written, whole or a part from its beginning
+-- with Ok the text was written whole, with a failed write a part from its beginning, else there is none
 abbrev pub IsWritten : Status → Option (List ℕ) → Option (List ℕ) → List ℕ → Type 0
 IsWritten Ok old new text = Appends old new text
 IsWritten Usage old new text = ⊥
@@ -42,10 +47,16 @@ IsWritten (BadSchedule line kind) old new text = ⊥
 IsWritten (TooLong what count) old new text = ⊥
 IsWritten NoMemory old new text = ⊥
 
--- The whole input was read, the trace is its run, and the text of its logs was written.
-abbrev pub DoesReplay : Status → Option (List ℕ) → Option (List ℕ) → Option (List ℕ) → Option (List ℕ) → List Record → Type 0
-DoesReplay status left rest old new trace =
-    (bytes : List ℕ) × ((text : List ℕ) × (WasRead left rest bytes × ((length bytes ≤ 67108864) × (Replays bytes trace text × IsWritten status old new text))))
+-- The source was read to its end, its bytes are an input, the trace is the run of the input, and its log text was written.
+pub record DoesReplay (status : Status) (left rest old new : Option (List ℕ)) (trace : List Record) : Type 0 where
+  pub bytes : List ℕ
+  pub place : Named
+  pub events : List Event
+  pub read : Consumes left rest bytes
+  pub end : IsAtEnd rest
+  pub input : IsInput bytes place events
+  pub run : IsOrderedRun place.graph events trace
+  pub written : IsWritten status old new (log_text place (reverse trace))
 
 -- Where nothing fails and there is memory, the status is what the first bytes of the source ask for.
 abbrev pub IsComplete : List (List ℕ) → Option (List ℕ) → Status → Type 0

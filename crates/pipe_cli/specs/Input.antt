@@ -1,5 +1,5 @@
 -- What an input says, and the status that it asks for.
-use Rattle.std.specs.Prelude.{◌≡◌, ℕ, nat_lt, if◌then◌else◌, List, [], ◌∷◌, length, drop, Option, None, Some, Result}
+use Rattle.std.specs.Prelude.{◌≡◌, ℕ, ◌≤◌, nat_lt, if◌then◌else◌, List, [], ◌∷◌, length, drop, Option, None, Some, Result}
 use Rattle.std.specs.Prelude as result
 use Rattle.std.specs.Str.Lines.{lines}
 use Rattle.pipe_base.specs.declared.fault.Size.TheVariants.{Bytes}
@@ -18,8 +18,9 @@ abbrev pub star_of : List (List ℕ) → Option Named
 star_of [] = None
 star_of (first ∷ rest) = star_line (words_of first)
 
--- the first line tells this network, and the lines from the second on these events
+-- the bytes are not too many, the first line tells this network, and the lines from the second on these events
 pub record IsInput (bytes : List ℕ) (place : Named) (events : List Event) : Type 0 where
+  pub within : length bytes ≤ 67108864
   pub star : star_of (lines bytes) ≡ Some place
   pub schedule : schedule_of place 2 (drop 1 (lines bytes)) ≡ result.Ok events
 

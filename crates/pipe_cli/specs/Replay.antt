@@ -9,18 +9,18 @@ use Rattle.pipe_cli.specs.Input.{IsInput}
 use Rattle.pipe_cli.specs.LogText.{log_text}
 use Rattle.pipe_cli.specs.Named.{Named}
 
--- the trace is the run of these events, and the order of the channel holds of it
-pub record IsChannel (graph : Graph) (events : List Event) (trace : List Record) : Type 0 where
+-- The trace is the run of these events, and the order of the channel holds of it: logs rise, stamps are above what was logged,
+-- and what is logged was sent.
+pub record IsOrderedRun (graph : Graph) (events : List Event) (trace : List Record) : Type 0 where
   pub run : IsRun graph events trace
   pub ordered : AreLogsOrdered graph (reverse trace)
   pub causal : AreStampsCausal graph (reverse trace)
   pub genuine : IsGenuine graph (reverse trace)
 
 -- the bytes tell a network and events, the trace is their run, and the text is that of its logs
-pub record IsReplay (bytes : List ℕ) (place : Named) (events : List Event) (trace : List Record) (text : List ℕ) : Type 0 where
+pub record Replays (bytes : List ℕ) (trace : List Record) (text : List ℕ) : Type 0 where
+  pub place : Named
+  pub events : List Event
   pub input : IsInput bytes place events
-  pub channel : IsChannel place.graph events trace
+  pub run : IsOrderedRun place.graph events trace
   pub text_is : text ≡ log_text place (reverse trace)
-
-abbrev pub Replays : List ℕ → List Record → List ℕ → Type 0
-Replays bytes trace text = (place : Named) × (events : List Event) × IsReplay bytes place events trace text

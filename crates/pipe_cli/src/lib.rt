@@ -10,12 +10,18 @@ mod input;
 mod log_text;
 mod read;
 mod receivers;
+mod replay;
 mod schedule;
 mod star;
 mod star_line;
 mod status;
+mod top;
 mod words;
 mod write;
 
 pub use status::{PlanFault, Status, exit_number};
+pub use top::{Outcome, run};
 pub use words::Words;
+
+#[cfg(test)]
+mod tests;

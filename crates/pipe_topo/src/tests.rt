@@ -1,4 +1,6 @@
 // Networks of known shape, each fault once, and sets and names.
+ghost use Rattle.std.specs.Prelude.{◌≡◌, length, IfOk};
+
 use crate::{Cable, CableEnd, HostSet, LinkSet, Names, Plan, TopoFault, Topology, What};
 use CableEnd::{Host, Switch};
 use pipe_base::{HostId, LinkId, List, NoMemory, NodeId, Ts};
@@ -111,26 +113,70 @@ fn are_links(links: &[LinkId], numbers: &[u16]) -> bool {
     links.len() == numbers.len() && links.iter().zip(numbers).all(|(link, n)| link.0 == *n)
 }
 
+// All links but one.
+fn all_but(
+    rt: &impl Abort,
+    alloc: Global,
+    topology: &Topology,
+    gone: u16,
+) -> Result<LinkSet, NoMemory>
+    ensures { IfOk result (λ by. length by ≡ length topology.now.links) }
+{
+    assert!(rt; gone < topology.links());
+    let mut by = LinkSet::all(alloc, topology.links())?;
+    by.remove(LinkId(gone));
+    Ok(by)
+}
+
+fn reaches_without(
+    rt: &impl Abort,
+    alloc: Global,
+    topology: &Topology,
+    gone: u16,
+) -> Result<bool, NoMemory> {
+    assert!(rt; topology.hosts() == 2);
+    let by = all_but(rt, alloc, topology, gone)?;
+    topology.reaches(alloc, NodeId(0), NodeId(1), &by)
+}
+
+fn feeds_without(
+    rt: &impl Abort,
+    alloc: Global,
+    topology: &Topology,
+    gone: u16,
+) -> Result<bool, NoMemory> {
+    assert!(rt; topology.hosts() == 2 && topology.links() == 16);
+    let by = all_but(rt, alloc, topology, gone)?;
+    topology.feeds(alloc, HostId(0), LinkId(14), &by)
+}
+
 #[test]
 fn hosts_reach_by_links_that_are_left(rt: HostRuntime) -> Result<(), Fail> {
     let alloc = rt.alloc();
     let plan = two_ways(alloc)?;
     let topology = build(&rt, alloc, &plan)?;
-    assert_eq!(rt; topology.links(), 16);
-    assert_eq!(rt; topology.hosts(), 2);
-    let all = LinkSet::all(alloc, 16)?;
-    assert!(rt; topology.reaches(alloc, NodeId(0), NodeId(1), &all)?);
-    assert!(rt; !topology.reaches(alloc, NodeId(3), NodeId(1), &all)?);
-    let mut one_way = all.try_clone()?;
-    one_way.remove(LinkId(4));
-    assert!(rt; topology.reaches(alloc, NodeId(0), NodeId(1), &one_way)?);
-    assert!(rt; topology.feeds(alloc, HostId(0), LinkId(7), &one_way)?);
-    assert!(rt; !topology.feeds(alloc, HostId(0), LinkId(14), &LinkSet::none(alloc, 16)?)?);
-    one_way.remove(LinkId(15));
-    assert!(rt; !topology.reaches(alloc, NodeId(0), NodeId(1), &one_way)?);
-    let mut gone = one_way.rest()?;
-    gone.insert(LinkId(1));
-    assert!(rt; gone.has(LinkId(4)) && gone.has(LinkId(1)) && !gone.has(LinkId(2)));
+    for (gone, reached, fed) in [(1, true, true), (4, true, false), (0, false, false)] {
+        assert_eq!(rt;
+            reaches_without(&rt, alloc, &topology, gone)?,
+            reached,
+            "without {gone}"
+        );
+        assert_eq!(rt;
+            feeds_without(&rt, alloc, &topology, gone)?,
+            fed,
+            "without {gone}"
+        );
+    }
+    Ok(())
+}
+
+#[test]
+fn sets_of_links(rt: HostRuntime) -> Result<(), Fail> {
+    let mut links = LinkSet::none(rt.alloc(), 3)?;
+    links.insert(LinkId(2));
+    let rest = links.try_clone()?.rest()?;
+    assert!(rt; links.has(LinkId(2)) && !links.has(LinkId(1)));
+    assert!(rt; rest.has(LinkId(1)) && !rest.has(LinkId(2)));
     Ok(())
 }
 

@@ -1,5 +1,5 @@
 -- From what is kept for a node to the rules over its own records.
-use Rattle.std.proofs.Common.{◌≡◌, ℕ, ◌+◌, ◌<◌, ◌≤◌, ◌==◌, ◌&&◌, max, Bool, true, false, if◌then◌else◌, List, [], ◌∷◌, ◌++◌, map, Option, None, Some, refl, sym, subst, ap, ◌∙◌, arith}
+use Rattle.std.proofs.Common.{◌≡◌, ℕ, max, Bool, true, false, if◌then◌else◌, List, [], ◌∷◌, ◌++◌, Option, None, Some, refl, sym, subst, ap, ◌∙◌}
 use Rattle.std.specs.Prelude.{nat_lt}
 use Rattle.std.proofs.lemmas.Bool.{ltb-false}
 use Rattle.pipe_base.specs.declared.message.Service.{Service}
@@ -7,13 +7,12 @@ use Rattle.pipe_base.specs.declared.message.Service.TheVariants.{BestEffort}
 use Rattle.pipe_base.specs.declared.name.LinkId.{LinkId}
 use Rattle.pipe_base.specs.declared.name.Ts.{Ts}
 use Rattle.pipe_base.specs.declared.packet.Packet.{Packet}
-use Rattle.pipe_base.specs.declared.packet.Plane.{Plane}
 use Rattle.pipe_base.specs.declared.packet.Plane.TheVariants as plane
 use Rattle.pipe_base.specs.declared.step.Fate.{Fate}
 use Rattle.pipe_base.specs.declared.step.Fate.TheVariants.{Held, Repeat, Late}
 use Rattle.pipe_base.specs.Barrier.{barrier}
 use Rattle.pipe_base.specs.Graph.{Graph, ins_of, is_host}
-use Rattle.pipe_base.specs.Messages.{Messages, below_barrier, from_barrier, has_key, logged_of, with_message}
+use Rattle.pipe_base.specs.Messages.{Messages, below_barrier, from_barrier, has_key, logged_of}
 use Rattle.pipe_base.specs.Moment.{Moment, is_up}
 use Rattle.pipe_base.proofs.MessageLaws.{from_later, from_with, has_from}
 use Rattle.pipe_barrier.specs.declared.registers.Barriers.{Barriers}
@@ -33,7 +32,7 @@ use Rattle.pipe_model.proofs.Rising.{barrier_rises}
 use Rattle.pipe_reorder.specs.Buffer.{Buffer}
 use Rattle.pipe_world.specs.declared.node.Node.{Node}
 use Rattle.pipe_world.specs.declared.work.Work.{Work}
-use Rattle.pipe_world.specs.Node.{Holds, Stands, StandsWith}
+use Rattle.pipe_world.specs.Node.{Stands, StandsWith}
 use Rattle.pipe_world.specs.Puts.{fields_of, fields_for}
 use Rattle.pipe_world.specs.Work.{Commits, IsWork, Undoes, received_in, record_of}
 

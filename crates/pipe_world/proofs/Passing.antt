@@ -1,10 +1,9 @@
 -- Events that change no node: nothing waits at their place, or nobody acts in them.
-use Rattle.std.proofs.Common.{◌≡◌, ℕ, ◌≤◌, ◌&&◌, Bool, true, false, if◌then◌else◌, List, [], ◌∷◌, length, Option, None, refl, sym, ap, ◌∙◌, arith, zero, suc}
-use Rattle.std.specs.Prelude.{nat_lt, not, slice_get, slice_index_or}
-use Rattle.std.proofs.lemmas.Bool.{and_right, both_ways, ltb-false, ltb-true}
+use Rattle.std.proofs.Common.{◌≡◌, ℕ, ◌≤◌, Bool, true, false, if◌then◌else◌, List, [], ◌∷◌, length, refl, ap, ◌∙◌, arith, zero, suc}
+use Rattle.std.specs.Prelude.{nat_lt, slice_get, slice_index_or}
+use Rattle.std.proofs.lemmas.Bool.{and_right, both_ways, ltb-false}
 use Rattle.pipe_base.specs.declared.name.LinkId.{LinkId}
 use Rattle.pipe_base.specs.declared.packet.Packet.{Packet}
-use Rattle.pipe_base.specs.declared.step.Outcome.{Outcome}
 use Rattle.pipe_base.specs.declared.step.Outcome.TheVariants.{Ok, NoItem}
 use Rattle.pipe_base.specs.Graph.{Graph}
 use Rattle.pipe_model.specs.declared.event.Event.{Event}
@@ -15,7 +14,7 @@ use Rattle.pipe_model.specs.Acting.{acts, is_own}
 use Rattle.pipe_model.specs.Event.{IsOfGraph, IsBuilt}
 use Rattle.pipe_model.specs.Outcome.{outcome_of, place_outcome, took_at, took_of}
 use Rattle.pipe_model.specs.Run.{IsStep, is_of_nobody}
-use Rattle.pipe_world.specs.Queues.{IsInPlace, Stand}
+use Rattle.pipe_world.specs.Queues.{Stand}
 use Rattle.pipe_world.specs.World.{is_there, quiet_record}
 
 absent : (b : Bool) → b ≡ false → NoItem ≡ (if b then Ok else NoItem)

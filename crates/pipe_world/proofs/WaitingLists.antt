@@ -1,5 +1,5 @@
 -- Lists of waiting packets: putting, taking back, taking out.
-use Rattle.std.proofs.Common.{◌≡◌, ◌≢◌, ℕ, ◌+◌, ◌-◌, ◌<◌, ◌≤◌, ◌==◌, ◌&&◌, not, Bool, true, false, if◌then◌else◌, List, [], ◌∷◌, ◌++◌, length, take, set, get_or, refl, sym, subst, ap, ◌∙◌, arith, inl, inr, append-nil, append_assoc, eq-eqb, ne_eqb, eqb-true}
+use Rattle.std.proofs.Common.{◌≡◌, ◌≢◌, ℕ, ◌-◌, ◌<◌, ◌==◌, ◌&&◌, not, Bool, true, false, if◌then◌else◌, List, [], ◌∷◌, ◌++◌, length, take, set, refl, sym, subst, ap, ◌∙◌, arith, inl, inr, append-nil, append_assoc, eq-eqb, ne_eqb, eqb-true}
 use Rattle.std.specs.Prelude.{slice_index_or, remove}
 use Rattle.std.proofs.lemmas.List.{take_at, length_push, length-append, length-set, get_or-set_same, get_or-set_other}
 use Rattle.std.proofs.lemmas.List.Edits.{remove-append_left}
@@ -12,7 +12,7 @@ use Rattle.pipe_model.specs.declared.event.Event.{Event}
 use Rattle.pipe_model.specs.declared.event.Event.TheVariants.{Send, Tick, Take, Lose, ControlTake, ControlLose, Decide, Crash, Cut}
 use Rattle.pipe_model.specs.declared.record.Record.{Record}
 use Rattle.pipe_model.specs.Acting.{is_idle}
-use Rattle.pipe_model.specs.Waiting.{left_after, put_on, waiting_on}
+use Rattle.pipe_model.specs.Waiting.{left_after, put_on}
 use Rattle.pipe_world.specs.Queues.{HavePut, HasLeft, IsInPlace, Waits, Stand}
 
 first_of_two : (b : Bool) (x : Packet) (all xs ys : List Packet) → all ≡ xs ++ ys → (if b then x ∷ all else all) ≡ (if b then x ∷ xs else xs) ++ ys

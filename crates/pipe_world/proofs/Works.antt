@@ -1,5 +1,5 @@
 -- That each kind of step is the work that it has to be.
-use Rattle.std.proofs.Common.{◌≡◌, ℕ, ◌+◌, ◌<◌, ◌≤◌, ◌==◌, ◌&&◌, max, Bool, true, false, if◌then◌else◌, List, [], ◌∷◌, ◌++◌, map, filter, Option, None, Some, refl, sym, subst, ap, ◌∙◌, arith, append-nil, eq-eqb}
+use Rattle.std.proofs.Common.{◌≡◌, ℕ, ◌+◌, ◌<◌, ◌≤◌, ◌==◌, ◌&&◌, max, Bool, true, false, if◌then◌else◌, List, [], ◌∷◌, map, filter, Option, None, Some, refl, sym, subst, ap, ◌∙◌, arith, append-nil, eq-eqb}
 use Rattle.std.specs.Prelude.{nat_lt, nat_le, not}
 use Rattle.std.specs.List.{All}
 use Rattle.std.proofs.lemmas.Bool.{le-leb, lt-leb}
@@ -24,19 +24,15 @@ use Rattle.pipe_base.proofs.MessageLaws.{below-all, none_between, filter_all}
 use Rattle.pipe_barrier.specs.declared.registers.Barriers.{Barriers}
 use Rattle.pipe_barrier.specs.Registers.{AreBarriers, Kept}
 use Rattle.pipe_barrier.specs.Registers as registers
-use Rattle.pipe_model.specs.declared.event.Event.{Event}
 use Rattle.pipe_model.specs.declared.event.Event.TheVariants.{Send, Tick, Take}
-use Rattle.pipe_model.specs.declared.record.Record.{Record}
 use Rattle.pipe_model.specs.declared.record.Took.TheVariants.{Nothing, Link}
 use Rattle.pipe_model.specs.Clock.{after_stamp, last_stamp, next, stamp_at, stamp_of}
 use Rattle.pipe_model.specs.Duties.{Fields, beacon, has_link, message_to, routed, lost, owed_by_take}
 use Rattle.pipe_model.specs.Fate.{carries, fate_of, got_of, key_of, with_held}
-use Rattle.pipe_model.specs.Moments.{received_of}
 use Rattle.pipe_world.specs.declared.node.Node.{Node}
 use Rattle.pipe_world.specs.declared.puts.Puts.{Puts}
-use Rattle.pipe_world.specs.declared.work.Work.{Work}
 use Rattle.pipe_world.specs.Puts.{ArePutsOf, fields_of, fields_for}
-use Rattle.pipe_world.specs.Work.{IsFresh, IsReceipt, IsWork, received_in, record_of}
+use Rattle.pipe_world.specs.Work.{IsFresh, IsReceipt, IsWork}
 
 -- all that is logged is below the barrier
 logged_all : (b : ℕ) (s : Service) (ms : Messages) → All (λ (m : Key × List ℕ). m.0.ts.0 < b) ms → All (λ (e : Service × Entry). e.1.key.ts.0 < b) (logged_of s ms)

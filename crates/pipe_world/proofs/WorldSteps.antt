@@ -1,36 +1,32 @@
 -- One event of the world: its record is what the rules say, and what is kept follows it.
-use Rattle.std.proofs.Common.{◌≡◌, ◌≢◌, ℕ, ◌+◌, ◌<◌, ◌≤◌, ◌==◌, ◌&&◌, Bool, true, false, if◌then◌else◌, List, [], ◌∷◌, ◌++◌, length, set, get_or, Option, None, Some, refl, sym, subst, ap, ◌∙◌, arith, inl, inr, eq-eqb, ne_eqb}
+use Rattle.std.proofs.Common.{◌≡◌, ◌≢◌, ℕ, ◌<◌, Bool, true, false, if◌then◌else◌, List, [], ◌∷◌, ◌++◌, length, set, refl, sym, subst, ap, ◌∙◌, arith, inl, inr, eq-eqb, ne_eqb}
 use Rattle.std.specs.Prelude.{nat_lt, not, reverse, slice_get, slice_index_or, Result, OnOk, OnErr, IfErr, is_err}
 use Rattle.std.specs.Prelude.{Ok as ResultOk, Err as ResultErr}
-use Rattle.std.proofs.lemmas.Bool.{and_from, and_left, and_right, and_parts, or_from, both_ways, cases_eq, ltb-false}
+use Rattle.std.proofs.lemmas.Bool.{and_from, and_left, or_from, both_ways, cases_eq}
 use Rattle.std.proofs.lemmas.List.{reverse-append, get_or-set_same, get_or-set_other, length-set}
-use Rattle.pipe_base.specs.declared.name.LinkId.{LinkId}
 use Rattle.pipe_base.specs.declared.name.NodeId.{NodeId}
 use Rattle.pipe_base.specs.declared.packet.Packet.{Packet}
 use Rattle.pipe_base.specs.declared.step.Outcome.{Outcome}
 use Rattle.pipe_base.specs.declared.step.Outcome.TheVariants.{Ok, ClockEnd, NoItem}
-use Rattle.pipe_base.specs.Graph.{Graph, IsGraph, head_of}
-use Rattle.pipe_base.specs.Step.{quiet_step}
+use Rattle.pipe_base.specs.Graph.{Graph, head_of}
 use Rattle.pipe_model.specs.declared.event.Event.{Event}
 use Rattle.pipe_model.specs.declared.event.Event.TheVariants.{Send, Tick, Take, Lose, ControlTake, ControlLose, Decide, Crash, Cut}
 use Rattle.pipe_model.specs.declared.record.Record.{Record}
 use Rattle.pipe_model.specs.declared.record.Took.{Took}
-use Rattle.pipe_model.specs.declared.record.Took.TheVariants.{Nothing}
 use Rattle.pipe_model.specs.Acting.{acts, is_idle, is_own, own}
 use Rattle.pipe_model.specs.Clock.{next, send_outcome}
 use Rattle.pipe_model.specs.Event.{IsOfGraph, IsBuilt}
 use Rattle.pipe_model.specs.Outcome.{outcome_of, place_outcome, took_at, took_of}
-use Rattle.pipe_model.specs.Run.{IsHistory, IsNodeStep, IsStep, is_of_nobody, is_quiet}
-use Rattle.pipe_model.specs.Waiting.{waiting_on}
+use Rattle.pipe_model.specs.Run.{IsNodeStep, IsStep, is_of_nobody, is_quiet}
 use Rattle.pipe_model.proofs.Own.{own_more, own_same}
 use Rattle.pipe_world.specs.declared.node.Node.{Node}
 use Rattle.pipe_world.specs.declared.work.Work.{Work}
 use Rattle.pipe_world.specs.Node as node
 use Rattle.pipe_world.specs.Queues as queues
 use Rattle.pipe_world.specs.Queues.{IsInPlace}
-use Rattle.pipe_world.specs.Work.{Commits, IsWork, Undoes, record_of}
+use Rattle.pipe_world.specs.Work.{Commits, IsWork, record_of}
 use Rattle.pipe_world.specs.World.{ActsAt, Adds, Keeps, Restores, Stands, Tells, is_there}
-use Rattle.pipe_world.proofs.NodeSteps.{work_follows, settled, undone}
+use Rattle.pipe_world.proofs.NodeSteps.{work_follows, settled}
 
 acts_here : (graph : Graph) (id : NodeId) (event : Event) (took : Took) → ActsAt graph id event → acts graph id.0 event took ≡ true
 acts_here graph id (Send host service now dests) took at = eq-eqb host.0 id.0 (sym at)

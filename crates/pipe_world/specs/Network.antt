@@ -4,7 +4,7 @@ use Rattle.std.specs.List.{range_with_len}
 use Rattle.pipe_base.specs.declared.name.Link.{Link}
 use Rattle.pipe_base.specs.declared.name.LinkId.{LinkId}
 use Rattle.pipe_base.specs.declared.name.NodeId.{NodeId}
-use Rattle.pipe_base.specs.Graph.{Graph, IsGraph, no_link, link_id, ins_of, outs_of}
+use Rattle.pipe_base.specs.Graph.{Graph, IsGraph, no_link, link_id}
 use Rattle.pipe_world.specs.declared.network.End.{End}
 use Rattle.pipe_world.specs.declared.network.End.TheVariants.{Tail, Head}
 

@@ -1,4 +1,3 @@
-use Rattle.std.proofs.Common.{◌≡◌}
 use Rattle.pipe_world.specs.Network.{IsTableOf}
 use Rattle.pipe_world.proofs.network.table.Given as goal
 

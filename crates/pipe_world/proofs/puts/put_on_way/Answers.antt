@@ -1,4 +1,4 @@
-use Rattle.std.proofs.Common.{◌≡◌, ℕ, ◌+◌, ◌++◌, [], cond, Option, ap, ◌∙◌, sym, append-nil, arith}
+use Rattle.std.proofs.Common.{ℕ, ◌++◌, [], cond, Option, ap, ◌∙◌, sym, append-nil, arith}
 use Rattle.std.specs.Prelude.{is_none}
 use Rattle.pipe_base.specs.declared.name.LinkId.{LinkId}
 use Rattle.pipe_model.specs.Duties.{on_way}

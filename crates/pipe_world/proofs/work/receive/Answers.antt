@@ -1,4 +1,4 @@
-use Rattle.std.proofs.Common.{◌<◌, ◌++◌, List, [], ◌∙◌, ap, sym, subst, None, Some}
+use Rattle.std.proofs.Common.{◌<◌, ◌++◌, List, [], ◌∙◌, ap, sym, subst, Some}
 use Rattle.std.specs.List.{All}
 use Rattle.pipe_base.specs.declared.message.Entry.{Entry}
 use Rattle.pipe_base.specs.declared.message.Service.{Service}

@@ -1,5 +1,4 @@
-use Rattle.std.proofs.Common.{◌≡◌, ◌+◌, List, length, ap, subst, ◌∙◌, sym, arith}
-use Rattle.pipe_model.specs.Star.{star}
+use Rattle.std.proofs.Common.{◌+◌, List, length, ap, subst, sym, arith}
 use Rattle.pipe_base.specs.declared.name.Link.{Link}
 use Rattle.pipe_base.specs.Graph.{Graph, IsGraph}
 use Rattle.pipe_world.proofs.StarGraph.{length-star, star_is_graph}
