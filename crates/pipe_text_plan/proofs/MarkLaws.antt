@@ -37,7 +37,7 @@ passed_more input rest piece after n is first joined shorter unmarked =
       count = omega (arith, length-append is.done (piece ∷ []));
       unmarked = omega (arith, before, one, so_far);
       joined = is.joined ∙ ap (λ (xs : List ℕ). concat is.done ++ xs) joined ∙ sym (append_assoc (concat is.done) piece after)
-        ∙ ap (λ (xs : List ℕ). xs ++ after) (sym (concat-append is.done (piece ∷ []) ∙ ap (λ (xs : List ℕ). concat is.done ++ xs) (append-nil piece)));
+          ∙ ap (λ (xs : List ℕ). xs ++ after) (sym (concat-append is.done (piece ∷ []) ∙ ap (λ (xs : List ℕ). concat is.done ++ xs) (append-nil piece)));
       few = omega arith;
     }
 
@@ -71,13 +71,13 @@ passed_mark input rest piece after n is first marks =
     let size : length (pieces input) ≡ length is.done + length (piece ∷ pieces after) = ap length all ∙ length-append is.done (piece ∷ pieces after) in
     let place : position is_mark (pieces input) ≡ Some n = position_is is_mark (pieces input) n (omega (arith, so_far, none)) (omega (arith, size, count)) in
     let front : concat (take n (pieces input)) ≡ take (length input - length rest) input =
-      ap (λ (xs : List (List ℕ)). concat (take n xs)) all ∙ ap (λ k. concat (take k (is.done ++ piece ∷ pieces after))) (sym count)
-      ∙ ap concat (take_done is.done (piece ∷ pieces after))
-      ∙ sym (ap (λ (xs : List ℕ). take (length xs - length rest) xs) is.joined ∙ take_front (concat is.done) rest) in
+    ap (λ (xs : List (List ℕ)). concat (take n xs)) all ∙ ap (λ k. concat (take k (is.done ++ piece ∷ pieces after))) (sym count)
+    ∙ ap concat (take_done is.done (piece ∷ pieces after))
+    ∙ sym (ap (λ (xs : List ℕ). take (length xs - length rest) xs) is.joined ∙ take_front (concat is.done) rest) in
     let next : n + 1 ≡ suc (length is.done) = omega (arith, count) in
     let back : concat (drop (n + 1) (pieces input)) ≡ after =
-      ap (λ (xs : List (List ℕ)). concat (drop (n + 1) xs)) all ∙ ap (λ k. concat (drop k (is.done ++ piece ∷ pieces after))) next
-      ∙ ap concat (drop_done is.done (pieces after) piece) ∙ concat-pieces after in
+    ap (λ (xs : List (List ℕ)). concat (drop (n + 1) xs)) all ∙ ap (λ k. concat (drop k (is.done ++ piece ∷ pieces after))) next
+    ∙ ap concat (drop_done is.done (pieces after) piece) ∙ concat-pieces after in
     ap (marked_at (pieces input)) place
     ∙ (λ i. Some (record { star = false; topology = front i; rest = back i; line = n + 2 }))
 

@@ -71,7 +71,7 @@ new_name all names longer count name new are within is good added fresh more =
       names_are = last ∙ (λ i. are.names_are i ++ name ∷ []) ∙ ap (λ (n : List ℕ). take count all ++ n ∷ []) (sym is) ∙ sym (take_more all count [] within);
       size = ap length last ∙ omega (arith, length_push names name, size);
       right = first_more (is_wrong all) count are.right
-        (wrong_by all names count name true false are is good (not_yes (list_any (bytes_eq name) names) (sym added ∙ fresh)));
+          (wrong_by all names count name true false are is good (not_yes (list_any (bytes_eq name) names) (sym added ∙ fresh)));
     }
   where
     not_yes : (t : Bool) → not t ≡ true → t ≡ false

@@ -22,3 +22,6 @@ pub use division::{Parts, parts_of};
 pub use fault::{KeyName, PlanError, PlanFault};
 pub use name::is_name;
 pub use read::{PlanInput, read_plan};
+
+#[cfg(test)]
+mod tests;

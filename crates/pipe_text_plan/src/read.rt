@@ -166,7 +166,11 @@ fn build(alloc: Global, names: Names, plan: Plan) -> Result<PlanInput, PlanError
     ensures fault { IfErr result (λ error. (fault : Fault) → error ≡ PlanError.Plan fault → built names plan ≡ Err fault) }
 {
     match Topology::build(alloc, &plan) {
-        Ok(topology) => Ok(PlanInput { names, plan, topology }),
+        Ok(topology) => Ok(PlanInput {
+            names,
+            plan,
+            topology,
+        }),
         Err(TopoFault::NoMemory) => Err(PlanError::NoMemory),
         Err(fault) => Err(PlanError::Plan(PlanFault::Topo(fault))),
     }

@@ -17,7 +17,10 @@ pub fn star_of(words: &[&[u8]]) -> Option<(u16, u64)>
 {
     match words {
         [_, hosts] => star_with(read_number(hosts, 64), Some(PATIENCE)),
-        [_, hosts, patience] => star_with(read_number(hosts, 64), read_number(patience, 281474976710654)),
+        [_, hosts, patience] => star_with(
+            read_number(hosts, 64),
+            read_number(patience, 281474976710654),
+        ),
         _ => None,
     }
 }

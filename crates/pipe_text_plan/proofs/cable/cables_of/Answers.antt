@@ -27,12 +27,12 @@ texts-preserved c =
     (drop_map now_of c.args.texts.now c.texts.text-index other c.texts-test.true) (sym c.cable_of.ensures ∙ c.in-Some.is) in
     record {
       so_far = subst (λ (done : List (CableEnd × CableEnd)). read_all (cable_of c.args.hosts c.args.names.now) (map now_of c.args.texts.now)
-        ≡ read_after (c.texts.text-index + 1) done (read_all (cable_of c.args.hosts c.args.names.now) (drop (c.texts.text-index + 1) (map now_of c.args.texts.now))))
-        (sym c.in_ok-push.ensures.items) more;
+          ≡ read_after (c.texts.text-index + 1) done (read_all (cable_of c.args.hosts c.args.names.now) (drop (c.texts.text-index + 1) (map now_of c.args.texts.now))))
+          (sym c.in_ok-push.ensures.items) more;
       count = omega (arith, c.in_ok-push.ensures.len, c.texts.invariant.count);
     }
 
 pub returns-clause-ok : goal.returns-clause-ok
 returns-clause-ok c =
     ap (faulted (λ at. CableText at)) (read_end (cable_of c.args.hosts c.args.names.now) (map now_of c.args.texts.now) c.texts.text-index c.texts.cables.items
-        c.texts.invariant.so_far (drop_done now_of c.args.texts.now c.texts.text-index c.texts-test.false))
+    c.texts.invariant.so_far (drop_done now_of c.args.texts.now c.texts.text-index c.texts-test.false))

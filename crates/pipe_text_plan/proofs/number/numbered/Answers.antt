@@ -22,7 +22,7 @@ returns-then-not-branch-clause-fault c = λ fault is.
     old_name (map now_of c.args.all.now) c.names.names c.names.name-index (get_or c.args.all.now c.names.name-index other).now c.in_ok-add.field-0 c.names.invariant
     (simp length-map c.names-test.true) (map_at now_of c.args.all.now c.names.name-index other [] c.names-test.true) c.in_ok-add.ensures.added c.if-not-branch.true
     ∙ ap Err (ap (λ (names : List (List ℕ)). Name (length names)) (sym same)
-        ∙ one_fault c.wrong_name-then-not-branch.result (Name (length c.add.new.self)) fault c.wrong_name-then-not-branch.ensures is)
+    ∙ one_fault c.wrong_name-then-not-branch.result (Name (length c.add.new.self)) fault c.wrong_name-then-not-branch.ensures is)
 
 pub names-preserved : goal.names-preserved
 names-preserved c =

@@ -28,11 +28,11 @@ numbered-requires c =
     let good : switches_of (document_view c.args.texts.now).switches ≡ Ok (map seen c.in-Ok.switches.items)
     = sym (ap (λ (texts : List (Bor (List ℕ))). switches_of (map now_of texts)) c.deref.ensures.value) ∙ c.in-Ok.ensures.ok in
     let all : map now_of c.deref-4.result.now ≡ all_names (document_view c.args.texts.now).hosts (map seen c.in-Ok.switches.items) =
-      ap (map now_of) c.deref-4.ensures.value ∙ c.in_ok-all.ensures
-      ∙ (λ i. all_names (map now_of (c.deref-2.ensures.value i)) (map seen (c.deref-3.ensures.value i))) in
+    ap (map now_of) c.deref-4.ensures.value ∙ c.in_ok-all.ensures
+    ∙ (λ i. all_names (map now_of (c.deref-2.ensures.value i)) (map seen (c.deref-3.ensures.value i))) in
     let size : length (map now_of c.deref-4.result.now) ≡ length (document_view c.args.texts.now).hosts + length (map seen c.in-Ok.switches.items) =
-      ap length all ∙ length-append (document_view c.args.texts.now).hosts (map (λ (switch : List ℕ × ℕ). switch.0) (map seen c.in-Ok.switches.items))
-      ∙ ap (λ n. length (document_view c.args.texts.now).hosts + n) (simp length-map) in
+    ap length all ∙ length-append (document_view c.args.texts.now).hosts (map (λ (switch : List ℕ × ℕ). switch.0) (map seen c.in-Ok.switches.items))
+    ∙ ap (λ n. length (document_view c.args.texts.now).hosts + n) (simp length-map) in
     let mapped : length (map now_of c.deref-4.result.now) ≡ length c.deref-4.result.now = simp length-map in
     omega (arith, size, mapped, switches_size (document_view c.args.texts.now).switches (map seen c.in-Ok.switches.items) good, few_hosts, few_switches)
 
@@ -49,8 +49,8 @@ returns-in-Err-numbered-clause-fault c = λ fault is.
     let good : switches_of (document_view c.args.texts.now).switches ≡ Ok (map seen c.in-Ok.switches.items)
     = sym (ap (λ (texts : List (Bor (List ℕ))). switches_of (map now_of texts)) c.deref.ensures.value) ∙ c.in-Ok.ensures.ok in
     let all : map now_of c.deref-4.result.now ≡ all_names (document_view c.args.texts.now).hosts (map seen c.in-Ok.switches.items) =
-      ap (map now_of) c.deref-4.ensures.value ∙ c.in_ok-all.ensures
-      ∙ (λ i. all_names (map now_of (c.deref-2.ensures.value i)) (map seen (c.deref-3.ensures.value i))) in
+    ap (map now_of) c.deref-4.ensures.value ∙ c.in_ok-all.ensures
+    ∙ (λ i. all_names (map now_of (c.deref-2.ensures.value i)) (map seen (c.deref-3.ensures.value i))) in
     name_fault (document_view c.args.texts.now) (map seen c.in-Ok.switches.items) fault room good (sym (ap numbered all) ∙ c.in-Err-numbered.ensures.fault fault is)
 
 pub returns-in-Err-cables_of-clause-fault : goal.returns-in-Err-cables_of-clause-fault
@@ -59,14 +59,14 @@ returns-in-Err-cables_of-clause-fault c = λ fault is.
     let good : switches_of (document_view c.args.texts.now).switches ≡ Ok (map seen c.in-Ok.switches.items)
     = sym (ap (λ (texts : List (Bor (List ℕ))). switches_of (map now_of texts)) c.deref.ensures.value) ∙ c.in-Ok.ensures.ok in
     let all : map now_of c.deref-4.result.now ≡ all_names (document_view c.args.texts.now).hosts (map seen c.in-Ok.switches.items) =
-      ap (map now_of) c.deref-4.ensures.value ∙ c.in_ok-all.ensures
-      ∙ (λ i. all_names (map now_of (c.deref-2.ensures.value i)) (map seen (c.deref-3.ensures.value i))) in
+    ap (map now_of) c.deref-4.ensures.value ∙ c.in_ok-all.ensures
+    ∙ (λ i. all_names (map now_of (c.deref-2.ensures.value i)) (map seen (c.deref-3.ensures.value i))) in
     let known : numbered (all_names (document_view c.args.texts.now).hosts (map seen c.in-Ok.switches.items)) ≡ Ok c.in-Ok-numbered.names
     = sym (ap numbered all) ∙ c.in-Ok-numbered.ensures.ok in
     let hosts : c.len-hosts.result ≡ length (document_view c.args.texts.now).hosts =
-      c.len-hosts.ensures ∙ sym c.deref-2.ensures.len ∙ ap length c.deref-2.ensures.value ∙ sym (simp length-map) in
+    c.len-hosts.ensures ∙ sym c.deref-2.ensures.len ∙ ap length c.deref-2.ensures.value ∙ sym (simp length-map) in
     let bad : cables_of (length (document_view c.args.texts.now).hosts) c.in-Ok-numbered.names (document_view c.args.texts.now).cables ≡ Err fault =
-      sym (λ i. cables_of (hosts i) c.in-Ok-numbered.names (map now_of (c.deref-5.ensures.value i))) ∙ c.in-Err-cables_of.ensures.fault fault is in
+    sym (λ i. cables_of (hosts i) c.in-Ok-numbered.names (map now_of (c.deref-5.ensures.value i))) ∙ c.in-Err-cables_of.ensures.fault fault is in
     cable_fault (document_view c.args.texts.now) (map seen c.in-Ok.switches.items) c.in-Ok-numbered.names fault room good known bad
 
 pub build-requires-clause-ends : goal.build-requires-clause-ends
@@ -75,21 +75,21 @@ build-requires-clause-ends c =
     let good : switches_of (document_view c.args.texts.now).switches ≡ Ok (map seen c.in-Ok.switches.items)
     = sym (ap (λ (texts : List (Bor (List ℕ))). switches_of (map now_of texts)) c.deref.ensures.value) ∙ c.in-Ok.ensures.ok in
     let all : map now_of c.deref-4.result.now ≡ all_names (document_view c.args.texts.now).hosts (map seen c.in-Ok.switches.items) =
-      ap (map now_of) c.deref-4.ensures.value ∙ c.in_ok-all.ensures
-      ∙ (λ i. all_names (map now_of (c.deref-2.ensures.value i)) (map seen (c.deref-3.ensures.value i))) in
+    ap (map now_of) c.deref-4.ensures.value ∙ c.in_ok-all.ensures
+    ∙ (λ i. all_names (map now_of (c.deref-2.ensures.value i)) (map seen (c.deref-3.ensures.value i))) in
     let known : numbered (all_names (document_view c.args.texts.now).hosts (map seen c.in-Ok.switches.items)) ≡ Ok c.in-Ok-numbered.names
     = sym (ap numbered all) ∙ c.in-Ok-numbered.ensures.ok in
     let hosts : c.len-hosts.result ≡ length (document_view c.args.texts.now).hosts =
-      c.len-hosts.ensures ∙ sym c.deref-2.ensures.len ∙ ap length c.deref-2.ensures.value ∙ sym (simp length-map) in
+    c.len-hosts.ensures ∙ sym c.deref-2.ensures.len ∙ ap length c.deref-2.ensures.value ∙ sym (simp length-map) in
     let levels : c.in_ok-levels_of.field-0 ≡ map (λ (switch : List ℕ × ℕ). switch.1) (map seen c.in-Ok.switches.items) =
-      c.in_ok-levels_of.ensures ∙ ap (map (λ (switch : Bor (List ℕ) × ℕ). switch.1)) c.deref-6.ensures.value ∙ sym (levels_seen c.in-Ok.switches.items) in
+    c.in_ok-levels_of.ensures ∙ ap (map (λ (switch : Bor (List ℕ) × ℕ). switch.1)) c.deref-6.ensures.value ∙ sym (levels_seen c.in-Ok.switches.items) in
     let counted : length c.in_ok-levels_of.field-0 ≡ length (map seen c.in-Ok.switches.items) = ap length levels ∙ simp length-map in
     let size : length c.in-Ok-numbered.names ≡ c.len-hosts.result + length c.in_ok-levels_of.field-0 =
-      names_size (document_view c.args.texts.now).hosts c.in-Ok-numbered.names (map seen c.in-Ok.switches.items) known
-      ∙ sym (λ i. hosts i + counted i) in
+    names_size (document_view c.args.texts.now).hosts c.in-Ok-numbered.names (map seen c.in-Ok.switches.items) known
+    ∙ sym (λ i. hosts i + counted i) in
     subst (λ (cables : List (CableEnd × CableEnd)). HasEnds c.len-hosts.result (length c.in_ok-levels_of.field-0) cables) (sym c.from_vec.ensures)
     (cables_have_ends c.len-hosts.result (length c.in_ok-levels_of.field-0) c.in-Ok-numbered.names (map now_of c.deref-5.result.now) c.in-Ok-cables_of.cables.items
-        size c.in-Ok-cables_of.ensures.ok)
+    size c.in-Ok-cables_of.ensures.ok)
 
 pub build-requires-clause-countable_levels : goal.build-requires-clause-countable_levels
 build-requires-clause-countable_levels c =
@@ -99,7 +99,7 @@ build-requires-clause-countable_levels c =
     let good : switches_of (document_view c.args.texts.now).switches ≡ Ok (map seen c.in-Ok.switches.items)
     = sym (ap (λ (texts : List (Bor (List ℕ))). switches_of (map now_of texts)) c.deref.ensures.value) ∙ c.in-Ok.ensures.ok in
     let levels : c.in_ok-levels_of.field-0 ≡ map (λ (switch : List ℕ × ℕ). switch.1) (map seen c.in-Ok.switches.items) =
-      c.in_ok-levels_of.ensures ∙ ap (map (λ (switch : Bor (List ℕ) × ℕ). switch.1)) c.deref-6.ensures.value ∙ sym (levels_seen c.in-Ok.switches.items) in
+    c.in_ok-levels_of.ensures ∙ ap (map (λ (switch : Bor (List ℕ) × ℕ). switch.1)) c.deref-6.ensures.value ∙ sym (levels_seen c.in-Ok.switches.items) in
     let same : length c.in_ok-levels_of.field-0 ≡ length (map seen c.in-Ok.switches.items) = ap length levels ∙ simp length-map in
     omega (arith, same, switches_size (document_view c.args.texts.now).switches (map seen c.in-Ok.switches.items) good, few_switches)
 
@@ -111,14 +111,14 @@ build-requires-clause-countable_cables c =
     let good : switches_of (document_view c.args.texts.now).switches ≡ Ok (map seen c.in-Ok.switches.items)
     = sym (ap (λ (texts : List (Bor (List ℕ))). switches_of (map now_of texts)) c.deref.ensures.value) ∙ c.in-Ok.ensures.ok in
     let all : map now_of c.deref-4.result.now ≡ all_names (document_view c.args.texts.now).hosts (map seen c.in-Ok.switches.items) =
-      ap (map now_of) c.deref-4.ensures.value ∙ c.in_ok-all.ensures
-      ∙ (λ i. all_names (map now_of (c.deref-2.ensures.value i)) (map seen (c.deref-3.ensures.value i))) in
+    ap (map now_of) c.deref-4.ensures.value ∙ c.in_ok-all.ensures
+    ∙ (λ i. all_names (map now_of (c.deref-2.ensures.value i)) (map seen (c.deref-3.ensures.value i))) in
     let known : numbered (all_names (document_view c.args.texts.now).hosts (map seen c.in-Ok.switches.items)) ≡ Ok c.in-Ok-numbered.names
     = sym (ap numbered all) ∙ c.in-Ok-numbered.ensures.ok in
     let hosts : c.len-hosts.result ≡ length (document_view c.args.texts.now).hosts =
-      c.len-hosts.ensures ∙ sym c.deref-2.ensures.len ∙ ap length c.deref-2.ensures.value ∙ sym (simp length-map) in
+    c.len-hosts.ensures ∙ sym c.deref-2.ensures.len ∙ ap length c.deref-2.ensures.value ∙ sym (simp length-map) in
     let joined : cables_of (length (document_view c.args.texts.now).hosts) c.in-Ok-numbered.names (document_view c.args.texts.now).cables ≡ Ok c.in-Ok-cables_of.cables.items =
-      sym (λ i. cables_of (hosts i) c.in-Ok-numbered.names (map now_of (c.deref-5.ensures.value i))) ∙ c.in-Ok-cables_of.ensures.ok in
+    sym (λ i. cables_of (hosts i) c.in-Ok-numbered.names (map now_of (c.deref-5.ensures.value i))) ∙ c.in-Ok-cables_of.ensures.ok in
     let same : length c.from_vec.result ≡ length c.in-Ok-cables_of.cables.items = ap length c.from_vec.ensures in
     omega (arith, same, cables_size (length (document_view c.args.texts.now).hosts) c.in-Ok-numbered.names (document_view c.args.texts.now).cables c.in-Ok-cables_of.cables.items joined, few_cables)
 
@@ -128,20 +128,20 @@ returns-clause-ok c =
     let good : switches_of (document_view c.args.texts.now).switches ≡ Ok (map seen c.in-Ok.switches.items)
     = sym (ap (λ (texts : List (Bor (List ℕ))). switches_of (map now_of texts)) c.deref.ensures.value) ∙ c.in-Ok.ensures.ok in
     let all : map now_of c.deref-4.result.now ≡ all_names (document_view c.args.texts.now).hosts (map seen c.in-Ok.switches.items) =
-      ap (map now_of) c.deref-4.ensures.value ∙ c.in_ok-all.ensures
-      ∙ (λ i. all_names (map now_of (c.deref-2.ensures.value i)) (map seen (c.deref-3.ensures.value i))) in
+    ap (map now_of) c.deref-4.ensures.value ∙ c.in_ok-all.ensures
+    ∙ (λ i. all_names (map now_of (c.deref-2.ensures.value i)) (map seen (c.deref-3.ensures.value i))) in
     let known : numbered (all_names (document_view c.args.texts.now).hosts (map seen c.in-Ok.switches.items)) ≡ Ok c.in-Ok-numbered.names
     = sym (ap numbered all) ∙ c.in-Ok-numbered.ensures.ok in
     let hosts : c.len-hosts.result ≡ length (document_view c.args.texts.now).hosts =
-      c.len-hosts.ensures ∙ sym c.deref-2.ensures.len ∙ ap length c.deref-2.ensures.value ∙ sym (simp length-map) in
+    c.len-hosts.ensures ∙ sym c.deref-2.ensures.len ∙ ap length c.deref-2.ensures.value ∙ sym (simp length-map) in
     let joined : cables_of (length (document_view c.args.texts.now).hosts) c.in-Ok-numbered.names (document_view c.args.texts.now).cables ≡ Ok c.in-Ok-cables_of.cables.items =
-      sym (λ i. cables_of (hosts i) c.in-Ok-numbered.names (map now_of (c.deref-5.ensures.value i))) ∙ c.in-Ok-cables_of.ensures.ok in
+    sym (λ i. cables_of (hosts i) c.in-Ok-numbered.names (map now_of (c.deref-5.ensures.value i))) ∙ c.in-Ok-cables_of.ensures.ok in
     let levels : c.in_ok-levels_of.field-0 ≡ map (λ (switch : List ℕ × ℕ). switch.1) (map seen c.in-Ok.switches.items) =
-      c.in_ok-levels_of.ensures ∙ ap (map (λ (switch : Bor (List ℕ) × ℕ). switch.1)) c.deref-6.ensures.value ∙ sym (levels_seen c.in-Ok.switches.items) in
+    c.in_ok-levels_of.ensures ∙ ap (map (λ (switch : Bor (List ℕ) × ℕ). switch.1)) c.deref-6.ensures.value ∙ sym (levels_seen c.in-Ok.switches.items) in
     let says : described (document_view c.args.texts.now) ≡ built c.in-Ok-numbered.names (plan_with c.len-hosts.result c.in_ok-levels_of.field-0 c.from_vec.result c.args.texts.now.patience) =
-      described_is (document_view c.args.texts.now) (map seen c.in-Ok.switches.items) c.in-Ok-numbered.names c.in-Ok-cables_of.cables.items room good known joined
-      ∙ ap (built c.in-Ok-numbered.names) (sym (same_plan c.len-hosts.result (length (document_view c.args.texts.now).hosts) c.in_ok-levels_of.field-0
-          (map (λ (switch : List ℕ × ℕ). switch.1) (map seen c.in-Ok.switches.items)) c.from_vec.result c.in-Ok-cables_of.cables.items c.args.texts.now.patience hosts levels c.from_vec.ensures)) in
+    described_is (document_view c.args.texts.now) (map seen c.in-Ok.switches.items) c.in-Ok-numbered.names c.in-Ok-cables_of.cables.items room good known joined
+    ∙ ap (built c.in-Ok-numbered.names) (sym (same_plan c.len-hosts.result (length (document_view c.args.texts.now).hosts) c.in_ok-levels_of.field-0
+    (map (λ (switch : List ℕ × ℕ). switch.1) (map seen c.in-Ok.switches.items)) c.from_vec.result c.in-Ok-cables_of.cables.items c.args.texts.now.patience hosts levels c.from_vec.ensures)) in
     subst (λ (described : Result Described PlanFault). IfOk c.build.result (IsInput described)) (sym says) c.build.ensures.ok
 
 pub returns-clause-fault : goal.returns-clause-fault
@@ -150,19 +150,19 @@ returns-clause-fault c =
     let good : switches_of (document_view c.args.texts.now).switches ≡ Ok (map seen c.in-Ok.switches.items)
     = sym (ap (λ (texts : List (Bor (List ℕ))). switches_of (map now_of texts)) c.deref.ensures.value) ∙ c.in-Ok.ensures.ok in
     let all : map now_of c.deref-4.result.now ≡ all_names (document_view c.args.texts.now).hosts (map seen c.in-Ok.switches.items) =
-      ap (map now_of) c.deref-4.ensures.value ∙ c.in_ok-all.ensures
-      ∙ (λ i. all_names (map now_of (c.deref-2.ensures.value i)) (map seen (c.deref-3.ensures.value i))) in
+    ap (map now_of) c.deref-4.ensures.value ∙ c.in_ok-all.ensures
+    ∙ (λ i. all_names (map now_of (c.deref-2.ensures.value i)) (map seen (c.deref-3.ensures.value i))) in
     let known : numbered (all_names (document_view c.args.texts.now).hosts (map seen c.in-Ok.switches.items)) ≡ Ok c.in-Ok-numbered.names
     = sym (ap numbered all) ∙ c.in-Ok-numbered.ensures.ok in
     let hosts : c.len-hosts.result ≡ length (document_view c.args.texts.now).hosts =
-      c.len-hosts.ensures ∙ sym c.deref-2.ensures.len ∙ ap length c.deref-2.ensures.value ∙ sym (simp length-map) in
+    c.len-hosts.ensures ∙ sym c.deref-2.ensures.len ∙ ap length c.deref-2.ensures.value ∙ sym (simp length-map) in
     let joined : cables_of (length (document_view c.args.texts.now).hosts) c.in-Ok-numbered.names (document_view c.args.texts.now).cables ≡ Ok c.in-Ok-cables_of.cables.items =
-      sym (λ i. cables_of (hosts i) c.in-Ok-numbered.names (map now_of (c.deref-5.ensures.value i))) ∙ c.in-Ok-cables_of.ensures.ok in
+    sym (λ i. cables_of (hosts i) c.in-Ok-numbered.names (map now_of (c.deref-5.ensures.value i))) ∙ c.in-Ok-cables_of.ensures.ok in
     let levels : c.in_ok-levels_of.field-0 ≡ map (λ (switch : List ℕ × ℕ). switch.1) (map seen c.in-Ok.switches.items) =
-      c.in_ok-levels_of.ensures ∙ ap (map (λ (switch : Bor (List ℕ) × ℕ). switch.1)) c.deref-6.ensures.value ∙ sym (levels_seen c.in-Ok.switches.items) in
+    c.in_ok-levels_of.ensures ∙ ap (map (λ (switch : Bor (List ℕ) × ℕ). switch.1)) c.deref-6.ensures.value ∙ sym (levels_seen c.in-Ok.switches.items) in
     let says : described (document_view c.args.texts.now) ≡ built c.in-Ok-numbered.names (plan_with c.len-hosts.result c.in_ok-levels_of.field-0 c.from_vec.result c.args.texts.now.patience) =
-      described_is (document_view c.args.texts.now) (map seen c.in-Ok.switches.items) c.in-Ok-numbered.names c.in-Ok-cables_of.cables.items room good known joined
-      ∙ ap (built c.in-Ok-numbered.names) (sym (same_plan c.len-hosts.result (length (document_view c.args.texts.now).hosts) c.in_ok-levels_of.field-0
-          (map (λ (switch : List ℕ × ℕ). switch.1) (map seen c.in-Ok.switches.items)) c.from_vec.result c.in-Ok-cables_of.cables.items c.args.texts.now.patience hosts levels c.from_vec.ensures)) in
+    described_is (document_view c.args.texts.now) (map seen c.in-Ok.switches.items) c.in-Ok-numbered.names c.in-Ok-cables_of.cables.items room good known joined
+    ∙ ap (built c.in-Ok-numbered.names) (sym (same_plan c.len-hosts.result (length (document_view c.args.texts.now).hosts) c.in_ok-levels_of.field-0
+    (map (λ (switch : List ℕ × ℕ). switch.1) (map seen c.in-Ok.switches.items)) c.from_vec.result c.in-Ok-cables_of.cables.items c.args.texts.now.patience hosts levels c.from_vec.ensures)) in
     subst (λ (described : Result Described PlanFault). IfErr c.build.result (λ error. (fault : PlanFault) → error ≡ Plan fault → described ≡ Err fault)) (sym says)
     c.build.ensures.fault

@@ -32,11 +32,11 @@ texts-preserved c =
     = sym (ap (map seen) c.in_ok-push.ensures.items ∙ map-append seen c.texts.switches.items (c.in-Some.switch ∷ [])) in
     record {
       so_far = subst (λ (done : List (List ℕ × ℕ)). read_all switch_of (map now_of c.args.texts.now)
-        ≡ read_after (c.texts.text-index + 1) done (read_all switch_of (drop (c.texts.text-index + 1) (map now_of c.args.texts.now)))) done more;
+          ≡ read_after (c.texts.text-index + 1) done (read_all switch_of (drop (c.texts.text-index + 1) (map now_of c.args.texts.now)))) done more;
       count = omega (arith, c.in_ok-push.ensures.len, c.texts.invariant.count);
     }
 
 pub returns-clause-ok : goal.returns-clause-ok
 returns-clause-ok c =
     ap (faulted (λ at. SwitchText at)) (read_end switch_of (map now_of c.args.texts.now) c.texts.text-index (map seen c.texts.switches.items)
-        c.texts.invariant.so_far (drop_done now_of c.args.texts.now c.texts.text-index c.texts-test.false))
+    c.texts.invariant.so_far (drop_done now_of c.args.texts.now c.texts.text-index c.texts-test.false))
