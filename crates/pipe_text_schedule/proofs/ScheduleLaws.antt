@@ -28,15 +28,16 @@ line_then graph names at line more skipped =
     if skipped then schedule_of graph names (at + 1) more
     else event_onto at (line_event graph names (words_of line)) (schedule_of graph names (at + 1) more)
 
--- one line more: skipped, an event, or bad
-pub schedule_skip : (graph : Graph) (names : List (List ℕ)) (before : List Event) (at : ℕ) (text line rest : List ℕ) (all : Result (List Event) (ℕ × LineKind))
+-- a line more that is skipped
+schedule_skip : (graph : Graph) (names : List (List ℕ)) (before : List Event) (at : ℕ) (text line rest : List ℕ) (all : Result (List Event) (ℕ × LineKind))
     → lines text ≡ line ∷ lines rest → is_skipped (words_of line) ≡ true
     → after_events before (schedule_of graph names at (lines text)) ≡ all → after_events before (schedule_of graph names (at + 1) (lines rest)) ≡ all
 schedule_skip graph names before at text line rest all split skipped so_far =
     ap (λ t. after_events before (line_then graph names at line (lines rest) t)) (sym skipped)
     ∙ ap (λ ls. after_events before (schedule_of graph names at ls)) (sym split) ∙ so_far
 
-pub schedule_event : (graph : Graph) (names : List (List ℕ)) (before now : List Event) (event : Event) (at : ℕ) (text line rest : List ℕ)
+-- a line more with an event
+schedule_event : (graph : Graph) (names : List (List ℕ)) (before now : List Event) (event : Event) (at : ℕ) (text line rest : List ℕ)
     (all : Result (List Event) (ℕ × LineKind))
     → lines text ≡ line ∷ lines rest → is_skipped (words_of line) ≡ false → line_event graph names (words_of line) ≡ Ok event
     → now ≡ before ++ event ∷ []
@@ -48,16 +49,6 @@ schedule_event graph names before now event at text line rest all split is read 
     ∙ ap (λ t. after_events before (line_then graph names at line (lines rest) t)) (sym is)
     ∙ ap (λ ls. after_events before (schedule_of graph names at ls)) (sym split)
     ∙ so_far
-
-pub schedule_fault : (graph : Graph) (names : List (List ℕ)) (before : List Event) (at : ℕ) (kind : LineKind) (text line rest : List ℕ)
-    (all : Result (List Event) (ℕ × LineKind))
-    → lines text ≡ line ∷ lines rest → is_skipped (words_of line) ≡ false → line_event graph names (words_of line) ≡ Err kind
-    → after_events before (schedule_of graph names at (lines text)) ≡ all → all ≡ Err (at, kind)
-schedule_fault graph names before at kind text line rest all split is bad so_far =
-    sym so_far
-    ∙ ap (λ ls. after_events before (schedule_of graph names at ls)) split
-    ∙ ap (λ t. after_events before (line_then graph names at line (lines rest) t)) is
-    ∙ ap (λ e. after_events before (event_onto at e (schedule_of graph names (at + 1) (lines rest)))) bad
 
 -- one line more, whose event there is unless it is skipped
 pub schedule_more : (graph : Graph) (names : List (List ℕ)) (before now : List Event) (event : Option Event) (at : ℕ) (text line rest : List ℕ)
