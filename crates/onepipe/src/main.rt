@@ -28,6 +28,7 @@ fn main(rt: HostRuntime) -> ExitCode {
             let mut sink = StdSink::new(io::writer(&rt));
             run(rt.alloc(), &words, &mut source, &mut sink).status
         }
+        Err(fault) if fault.kind() == io::ErrorKind::OutOfMemory => Status::NoMemory,
         Err(_) => Status::Usage,
     };
     if status != Status::Ok {
