@@ -7,6 +7,5 @@ pub mod Moment
 pub mod Outside
 pub mod Path
 pub mod Reach
-pub mod Route
 pub mod ShortestRoute
 pub mod Step

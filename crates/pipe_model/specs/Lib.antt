@@ -3,11 +3,11 @@ pub mod Clock
 pub mod Duties
 pub mod Event
 pub mod Fate
+pub mod Items
 pub mod Logged
 pub mod Marks
 pub mod Moments
 pub mod Order
 pub mod Outcome
 pub mod Run
-pub mod Star
 pub mod Waiting

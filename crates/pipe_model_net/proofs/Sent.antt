@@ -14,7 +14,7 @@ use Rattle.pipe_base.specs.declared.step.Outcome.TheVariants.{Ok}
 use Rattle.pipe_base.specs.Graph.{Graph, is_half, outs_of}
 use Rattle.pipe_base.specs.Messages.{entry_of}
 use Rattle.pipe_base.specs.Moment.{Moment, is_up}
-use Rattle.pipe_base.specs.Route.{route}
+use Rattle.pipe_base.specs.ShortestRoute.{route}
 use Rattle.pipe_model.specs.declared.event.Event.{Event}
 use Rattle.pipe_model.specs.declared.event.Event.TheVariants.{Send, Tick, Take, Lose, ControlTake, ControlLose, Decide, Crash, Cut}
 use Rattle.pipe_model.specs.declared.record.Record.{Record}

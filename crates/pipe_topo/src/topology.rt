@@ -1,6 +1,6 @@
 // A network as a graph: nodes, and links with a tail and a head each.
 ghost use Rattle.std.specs.Prelude.{◌≡◌, ℕ, ◌+◌, ◌*◌, ◌<◌, ◌≤◌, length, All, IfOk};
-ghost use Rattle.pipe_base.specs.Graph.{Graph, IsGraph, head_of, ins_of, is_half, outs_of, tail_of};
+ghost use Rattle.pipe_base.specs.Graph.{Graph, IsGraph, head_of, ins_of, is_half, is_host, outs_of, tail_of};
 
 use pipe_base::{Link, LinkId, List, NoMemory, NodeId, Ts};
 use std::marker::Model;
@@ -61,6 +61,13 @@ impl Topology {
         self.links.len() as u16
     }
 
+    /// Where each link begins and ends, in the order of their numbers.
+    pub fn ends(&self) -> &[Link]
+        ensures { result.now ≡ self.now.links }
+    {
+        &self.links
+    }
+
     /// Where the link begins.
     pub fn tail(&self, link: LinkId) -> NodeId
         requires { link.0 < length self.now.links }
@@ -101,6 +108,12 @@ impl Topology {
         ensures { result.0 ≡ self.now.patience }
     {
         self.patience
+    }
+
+    pub fn is_host(&self, node: NodeId) -> bool
+        ensures { result ≡ is_host self.now node.0 }
+    {
+        node.0 < self.hosts
     }
 
     /// The node is a half of a switch, and no host.

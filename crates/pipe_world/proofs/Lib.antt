@@ -1,9 +1,8 @@
-pub mod Lists
+pub mod Items
 pub mod NodeSteps
 pub mod Passing
+pub mod Routes
 pub mod RunLaws
-pub mod StarGraph
-pub mod Tables
 pub mod WaitingLists
 pub mod Ways
 pub mod Works

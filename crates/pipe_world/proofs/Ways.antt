@@ -5,7 +5,7 @@ use Rattle.std.proofs.lemmas.List.Sums.{sum_by-cons}
 use Rattle.pipe_base.specs.declared.name.LinkId.{LinkId}
 use Rattle.pipe_base.specs.declared.packet.Packet.{Packet}
 use Rattle.pipe_base.specs.Graph.{Graph}
-use Rattle.pipe_base.specs.Route.{route}
+use Rattle.pipe_base.specs.ShortestRoute.{route}
 use Rattle.pipe_model.specs.Duties.{on_way, routed, lost}
 
 on_way_first : (way : Option LinkId) (p : Packet) (puts : List (LinkId × Packet)) → on_way way p [] ++ puts ≡ on_way way p puts

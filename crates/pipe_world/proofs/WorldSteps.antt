@@ -16,11 +16,13 @@ use Rattle.pipe_model.specs.declared.record.Took.{Took}
 use Rattle.pipe_model.specs.Acting.{acts, is_idle, is_own, own}
 use Rattle.pipe_model.specs.Clock.{next, send_outcome}
 use Rattle.pipe_model.specs.Event.{IsOfGraph, IsBuilt}
+use Rattle.pipe_model.specs.Items.{Overfills}
 use Rattle.pipe_model.specs.Outcome.{outcome_of, place_outcome, took_at, took_of}
 use Rattle.pipe_model.specs.Run.{IsNodeStep, IsStep, is_of_nobody, is_quiet}
 use Rattle.pipe_model.proofs.Own.{own_more, own_same}
 use Rattle.pipe_world.specs.declared.node.Node.{Node}
 use Rattle.pipe_world.specs.declared.work.Work.{Work}
+use Rattle.pipe_world.specs.History.{IsOver}
 use Rattle.pipe_world.specs.Node as node
 use Rattle.pipe_world.specs.Queues as queues
 use Rattle.pipe_world.specs.Queues.{IsInPlace}
@@ -108,6 +110,28 @@ took_told graph id past next_ts lists Decide w waits names at tells = absurd at
 took_told graph id past next_ts lists (Crash n) w waits names at tells = absurd at
 took_told graph id past next_ts lists (Cut link) w waits names at tells = absurd at
 
+-- the record of an event that was worked out is what the rules say
+pub worked : (graph : Graph) (id : NodeId) (before mid : Node) (lists : List (List Packet)) (event : Event) (w : Work)
+    → IsOfGraph graph event → IsBuilt event → ActsAt graph id event → is_there lists event ≡ true
+    → IsWork graph id.0 before mid event w → Tells before.next.0 lists event w
+    → (past : List Record) → node.Stands graph id.0 (own graph id.0 past) before → queues.Stand graph lists past → IsStep graph past (record_of event w)
+worked graph id before mid lists event w names built at there work tells past stands waits =
+    let r : Record = record_of event w in
+    let awake : is_idle w.step.outcome ≡ false = busy before.next.0 lists event w tells in
+    let others : (n : ℕ) → n ≢ id.0 → is_own graph n r ≡ false = λ n other. and_left (acts graph n event w.took) (not (is_idle w.step.outcome)) (acts_only graph id event w.took n at other) in
+    let follows = work_follows graph id.0 (own graph id.0 past) before mid event w stands work in
+    record {
+      built = built;
+      outcome_is = outcome_told graph id past before lists event w stands waits names at there tells;
+      took_is = took_told graph id past before.next.0 lists event w waits names at tells;
+      quiet = λ is. absurd (both_ways (is_quiet r) (or_from (is_idle w.step.outcome) (is_of_nobody event) awake (somebody graph id event at)) is);
+      node = λ n is.
+          elim (cases_eq n id.0) [
+            | inl same ↦ subst (λ (m : ℕ). IsNodeStep graph m (own graph m past) r) (sym same) follows.rules
+            | inr other ↦ absurd (both_ways (is_own graph n r) (others n other) is)
+          ];
+    }
+
 -- an event at the node that acts
 pub added : (graph : Graph) (id : NodeId) (before mid after : Node) (lists left : List (List Packet)) (event : Event) (w : Work)
     → IsOfGraph graph event → IsBuilt event → ActsAt graph id event → is_there lists event ≡ true
@@ -118,34 +142,27 @@ added graph id before mid after lists left event w names built at there work tel
     let r : Record = record_of event w in
     let awake : is_idle w.step.outcome ≡ false = busy before.next.0 lists event w tells in
     let mine : is_own graph id.0 r ≡ true = and_from (acts graph id.0 event w.took) (not (is_idle w.step.outcome)) (acts_here graph id event w.took at) (ap not awake) in
-    let others : (n : ℕ) → n ≢ id.0 → is_own graph n r ≡ false = λ n other. and_left (acts graph n event w.took) (not (is_idle w.step.outcome)) (acts_only graph id event w.took n at other) in
     record {
-      rules = λ past stands waits.
-          let follows = work_follows graph id.0 (own graph id.0 past) before mid event w stands work in
-          record {
-            built = built;
-            outcome_is = outcome_told graph id past before lists event w stands waits names at there tells;
-            took_is = took_told graph id past before.next.0 lists event w waits names at tells;
-            quiet = λ is. absurd (both_ways (is_quiet r) (or_from (is_idle w.step.outcome) (is_of_nobody event) awake (somebody graph id event at)) is);
-            node = λ n is.
-                elim (cases_eq n id.0) [
-                  | inl same ↦ subst (λ (m : ℕ). IsNodeStep graph m (own graph m past) r) (sym same) follows.rules
-                  | inr other ↦ absurd (both_ways (is_own graph n r) (others n other) is)
-                ];
-          };
+      rules = worked graph id before mid lists event w names built at there work tells;
       node_stands = λ past stands.
           let follows = work_follows graph id.0 (own graph id.0 past) before mid event w stands work in
           subst (λ (o : List Record). node.Stands graph id.0 o after) (sym (own_more graph id.0 r past mine))
           (settled graph id.0 (own graph id.0 past) mid after r w.next.0 follows.stands work.downed_is work.dropped_is follows.next_is commits);
-      others = others;
+      others = λ n other. and_left (acts graph n event w.took) (not (is_idle w.step.outcome)) (acts_only graph id event w.took n at other);
       queues_stand = moved;
     }
+
+-- an event that would put too much
+pub overfills : (graph : Graph) (trace : List Record) (r : Record) (event : Event) (items : ℕ) → IsStep graph (reverse trace) r → r.event ≡ event → IsOver trace r items
+    → Overfills graph trace event items
+overfills graph trace r event items step is over = record { next = r; event_is = is; rules = step; items_are = over.items_are; many = over.many }
 
 -- a record that changes no node
 pub passed_by : (graph : Graph) (nodes : List Node) (lists left : List (List Packet)) (past : List Record) (r : Record) → Keeps graph nodes lists past
     → ((n : ℕ) → is_own graph n r ≡ false) → IsStep graph past r → queues.Stand graph left (r ∷ past) → Keeps graph nodes left (r ∷ past)
 passed_by graph nodes lists left past r keeps nobody step moved = record {
   is_graph = keeps.is_graph;
+  few_links = keeps.few_links;
   count = keeps.count;
   nodes_are = λ n d lt. subst (λ (o : List Record). node.Stands graph n o (slice_index_or nodes n d)) (sym (own_same graph n r past (nobody n))) (keeps.nodes_are n d lt);
   queues_are = moved;
@@ -159,6 +176,7 @@ acted graph nodes lists left past id before after r keeps lt read adds =
     let stands : node.Stands graph id (own graph id past) before = subst (λ (k : Node). node.Stands graph id (own graph id past) k) (sym read) (keeps.nodes_are id before lt) in
     record {
       is_graph = keeps.is_graph;
+      few_links = keeps.few_links;
       count = length-set nodes id after ∙ keeps.count;
       nodes_are = λ n d within.
           elim (cases_eq n id) [
@@ -180,6 +198,7 @@ refused graph nodes lists left past id before after keeps lt read restores =
     let stands : node.Stands graph id (own graph id past) before = subst (λ (k : Node). node.Stands graph id (own graph id past) k) (sym read) (keeps.nodes_are id before lt) in
     record {
       is_graph = keeps.is_graph;
+      few_links = keeps.few_links;
       count = length-set nodes id after ∙ keeps.count;
       nodes_are = λ n d within.
           elim (cases_eq n id) [
@@ -195,6 +214,7 @@ refused graph nodes lists left past id before after keeps lt read restores =
 pub moved_queues : (graph : Graph) (nodes : List Node) (lists left : List (List Packet)) (past : List Record) → Keeps graph nodes lists past → queues.Stand graph left past → Keeps graph nodes left past
 moved_queues graph nodes lists left past keeps moved = record {
   is_graph = keeps.is_graph;
+  few_links = keeps.few_links;
   count = keeps.count;
   nodes_are = keeps.nodes_are;
   queues_are = moved;

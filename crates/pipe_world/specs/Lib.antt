@@ -1,3 +1,4 @@
+pub mod History
 pub mod Network
 pub mod Node
 pub mod Puts

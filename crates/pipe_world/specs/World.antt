@@ -1,5 +1,5 @@
 -- What the world is seen as, what it keeps, and what an event adds.
-use Rattle.std.specs.Prelude.{◌≡◌, ◌≢◌, ℕ, ◌<◌, nat_lt, Bool, true, false, List, [], ◌∷◌, ◌++◌, length, reverse, slice_get, slice_index_or}
+use Rattle.std.specs.Prelude.{◌≡◌, ◌≢◌, ℕ, ◌<◌, ◌≤◌, nat_lt, Bool, true, false, List, [], ◌∷◌, ◌++◌, length, reverse, slice_get, slice_index_or}
 use Rattle.pipe_base.specs.declared.name.NodeId.{NodeId}
 use Rattle.pipe_base.specs.declared.packet.Packet.{Packet}
 use Rattle.pipe_base.specs.declared.step.Outcome.{Outcome}
@@ -16,6 +16,7 @@ use Rattle.pipe_model.specs.Outcome.{took_at}
 use Rattle.pipe_model.specs.Run.{IsHistory, IsStep}
 use Rattle.pipe_world.specs.declared.node.Node.{Node}
 use Rattle.pipe_world.specs.declared.work.Work.{Work}
+use Rattle.pipe_world.specs.History.{IsOver}
 use Rattle.pipe_world.specs.Node as node
 use Rattle.pipe_world.specs.Queues as queues
 
@@ -27,6 +28,7 @@ pub record GraphAndTrace : Type 0 where
 -- what is kept is what the rules say after the history, and the history is one
 pub record Keeps (graph : Graph) (nodes : List Node) (lists : List (List Packet)) (past : List Record) : Type 0 where
   pub is_graph : IsGraph graph
+  pub few_links : length graph.links ≤ 1088
   pub count : length nodes ≡ graph.nodes
   pub nodes_are : (n : ℕ) (d : Node) → n < graph.nodes → node.Stands graph n (own graph n past) (slice_index_or nodes n d)
   pub queues_are : queues.Stand graph lists past
@@ -88,6 +90,13 @@ pub record Adds (graph : Graph) (id : ℕ) (before after : Node) (lists left : L
 pub record Restores (graph : Graph) (id : ℕ) (before after : Node) (lists left : List (List Packet)) : Type 0 where
   pub node_stands : (own : List Record) → node.Stands graph id own before → node.Stands graph id own after
   pub queues_stand : (past : List Record) → queues.Stand graph lists past → queues.Stand graph left past
+
+-- an event at a node: with the record that the rules give it, too much would be put
+pub record WouldOverfill (graph : Graph) (id : ℕ) (before : Node) (lists : List (List Packet)) (trace : List Record) (event : Event) (items : ℕ) : Type 0 where
+  pub next : Record
+  pub event_is : next.event ≡ event
+  pub rules : (past : List Record) → node.Stands graph id (own graph id past) before → queues.Stand graph lists past → IsStep graph past next
+  pub over : IsOver trace next items
 
 -- the record of an event that changes no node
 abbrev pub quiet_record : Event → Outcome → Record

@@ -1,41 +1,46 @@
 // One event of the world.
-ghost use Rattle.std.specs.Prelude.{◌≡◌, ◌<◌, ◌∷◌, ◌++◌, List, [], IfOk, OnOk, OnErr, MatchOption, IfSome, length, true};
+ghost use Rattle.std.specs.Prelude.{◌≡◌, ◌<◌, ◌≤◌, ◌∷◌, ◌++◌, ℕ, List, [], IfErr, IfOk, OnOk, OnErr, MatchOption, IfSome, length, true};
 ghost use Rattle.pipe_base.specs.Graph.{Graph, IsGraph};
 ghost use Rattle.pipe_model.specs.declared.record.Record.{Record};
 ghost use Rattle.pipe_model.specs.Event.{IsOfGraph, IsBuilt};
+ghost use Rattle.pipe_model.specs.Items.{Overfills};
 ghost use Rattle.pipe_model.specs.Run.{is_of_nobody};
+ghost use Rattle.pipe_world.specs.History.{FullBy};
 ghost use Rattle.pipe_world.specs.Queues.{AreKnown, IsInPlace};
 ghost use Rattle.pipe_world.specs.Work.{IsWork};
-ghost use Rattle.pipe_world.specs.World.{ActsAt, Adds, AddsEvent, IsAsBefore, PassesBy, Restores, Stands, Tells, is_there, quiet_record};
+ghost use Rattle.pipe_world.specs.World.{ActsAt, Adds, AddsEvent, IsAsBefore, PassesBy, Restores, Stands, Tells, WouldOverfill, is_there, quiet_record};
 
 use crate::enter::enter;
+use crate::fault::StepFault;
+use crate::history::History;
 use crate::network::Network;
 use crate::node::Node;
 use crate::queue::Queue;
 use crate::settle::{commit, undo};
 use crate::work::{Work, send_work, take_work, tick_work};
 use pipe_base::{NoMemory, NodeId, Outcome, Step};
-use pipe_model::{Event, Record, Took, Trace};
+use pipe_model::{Event, Record, Took};
 use std::alloc::Global;
 
-/// Appends the record of an event and changes what it changes. Where there is no memory nothing happens.
+/// Appends the record of an event and changes what it changes. On a fault nothing happens.
 pub fn happen(
     alloc: Global,
     network: &Network,
     nodes: &mut [Node],
     queues: &mut [Queue],
-    trace: &mut Trace,
+    history: &mut History,
     event: Event,
-) -> Result<(), NoMemory>
-    requires stands { Stands network.now nodes.old queues.old trace.old }
+) -> Result<(), StepFault>
+    requires stands { Stands network.now nodes.old queues.old history.old }
     requires event { IsOfGraph network.now event }
     requires built { IsBuilt event }
-    ensures ok { OnOk result (AddsEvent trace.old trace.new event) }
-    ensures err { OnErr result (trace.new ≡ trace.old) }
-    ensures stands { Stands network.now nodes.new queues.new trace.new }
+    ensures ok { OnOk result (AddsEvent history.old history.new event) }
+    ensures err { OnErr result (history.new ≡ history.old) }
+    ensures full { IfErr result (λ fault. (items : ℕ) → fault ≡ StepFault.Full items → Overfills network.now history.old event items) }
+    ensures stands { Stands network.now nodes.new queues.new history.new }
 {
     if !is_there(queues, &event) {
-        return pass_by(alloc, queues, trace, event, Outcome::NoItem);
+        return pass_by(alloc, queues, history, event, Outcome::NoItem);
     }
     match acting_node(network, &event) {
         Some(id) => act(
@@ -44,10 +49,10 @@ pub fn happen(
             id,
             &mut nodes[id.0 as usize],
             queues,
-            trace,
+            history,
             event,
         ),
-        None => pass_by(alloc, queues, trace, event, Outcome::Ok),
+        None => pass_by(alloc, queues, history, event, Outcome::Ok),
     }
 }
 
@@ -75,7 +80,7 @@ fn acting_node(network: &Network, event: &Event) -> Option<NodeId>
     match event {
         Event::Send { host, .. } => Some(NodeId(host.0)),
         Event::Tick { node, .. } => Some(*node),
-        Event::Take { link, .. } => Some(network.head(*link)),
+        Event::Take { link, .. } => Some(network.topology().head(*link)),
         _ => None,
     }
 }
@@ -84,13 +89,14 @@ fn acting_node(network: &Network, event: &Event) -> Option<NodeId>
 fn pass_by(
     alloc: Global,
     queues: &mut [Queue],
-    trace: &mut Trace,
+    history: &mut History,
     event: Event,
     outcome: Outcome,
-) -> Result<(), NoMemory>
+) -> Result<(), StepFault>
     requires { IsInPlace queues.old event outcome }
-    ensures ok { OnOk result (PassesBy queues.old queues.new trace.old trace.new (quiet_record event outcome)) }
-    ensures err { OnErr result (IsAsBefore queues.old queues.new trace.old trace.new) }
+    ensures ok { OnOk result (PassesBy queues.old queues.new history.old history.new (quiet_record event outcome)) }
+    ensures err { OnErr result (IsAsBefore queues.old queues.new history.old history.new) }
+    ensures full { IfErr result (FullBy history.old (quiet_record event outcome)) }
 {
     let mut step = Step::new(alloc);
     step.outcome = outcome;
@@ -99,10 +105,10 @@ fn pass_by(
         took: Took::Nothing,
         step,
     };
-    if enter(queues, trace, record).is_err() {
-        return Err(NoMemory);
+    match enter(queues, history, record) {
+        Ok(()) => Ok(()),
+        Err(refused) => Err(refused.fault),
     }
-    Ok(())
 }
 
 /// An event at the node that acts in it.
@@ -112,34 +118,38 @@ fn act(
     id: NodeId,
     node: &mut Node,
     queues: &mut [Queue],
-    trace: &mut Trace,
+    history: &mut History,
     event: Event,
-) -> Result<(), NoMemory>
+) -> Result<(), StepFault>
     requires event { IsOfGraph network.now event }
     requires built { IsBuilt event }
     requires acts { ActsAt network.now id event }
     requires node { id.0 < network.now.nodes }
     requires links { length queues.old ≡ length network.now.links }
+    requires few { length network.now.links ≤ 1088 }
     requires there { is_there queues.old event ≡ true }
-    ensures ok { OnOk result ((r : Record) × (trace.new ≡ trace.old ++ r ∷ []) × (r.event ≡ event) × Adds network.now id.0 node.old node.new queues.old queues.new r) }
-    ensures err { OnErr result ((trace.new ≡ trace.old) × Restores network.now id.0 node.old node.new queues.old queues.new) }
+    ensures ok { OnOk result ((r : Record) × (history.new ≡ history.old ++ r ∷ []) × (r.event ≡ event) × Adds network.now id.0 node.old node.new queues.old queues.new r) }
+    ensures err { OnErr result ((history.new ≡ history.old) × Restores network.now id.0 node.old node.new queues.old queues.new) }
+    ensures full { IfErr result (λ fault. (items : ℕ) → fault ≡ StepFault.Full items → WouldOverfill network.now id.0 node.old queues.old history.old event items) }
 {
-    let work = work_at(alloc, network, id, node, queues, &event)?;
+    let Ok(work) = work_at(alloc, network, id, node, queues, &event) else {
+        return Err(StepFault::NoMemory);
+    };
     let next = work.next;
     let record = Record {
         event,
         took: work.took,
         step: work.step,
     };
-    let at = trace.len();
-    match enter(queues, trace, record) {
+    let at = history.trace().len();
+    match enter(queues, history, record) {
         Ok(()) => {
-            commit(node, &trace.as_slice()[at], next);
+            commit(node, &history.trace().as_slice()[at], next);
             Ok(())
         }
-        Err(record) => {
-            undo(node, &record);
-            Err(NoMemory)
+        Err(refused) => {
+            undo(node, &refused.record);
+            Err(refused.fault)
         }
     }
 }

@@ -1,9 +1,11 @@
-//! The world: it runs a schedule of events on a star network and appends one record per event, each proved to be what the
+//! The world: it runs a schedule of events on a network and appends one record per event, each proved to be what the
 //! rules say of a run.
 #![tactic(auto)]
 
 mod enter;
+mod fault;
 mod happen;
+mod history;
 mod network;
 mod node;
 mod puts;
@@ -13,6 +15,7 @@ mod settle;
 mod work;
 mod world;
 
+pub use fault::StepFault;
 pub use world::World;
 
 #[cfg(test)]

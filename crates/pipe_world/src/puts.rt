@@ -1,7 +1,7 @@
 // The packets that a step puts, each on its way.
 ghost use Rattle.std.specs.Prelude.{◌≡◌, ◌+◌, ◌<◌, ◌≤◌, ◌++◌, ℕ, [], ◌∷◌, Some, IfOk, OnOk, length, map};
 ghost use Rattle.pipe_base.specs.Graph.{outs_of};
-ghost use Rattle.pipe_base.specs.Route.{route};
+ghost use Rattle.pipe_base.specs.ShortestRoute.{route};
 ghost use Rattle.pipe_model.specs.Duties.{is_beacon, message_to, beacon, owed_by_take, on_way, lost};
 ghost use Rattle.pipe_world.specs.Puts.{fields_of, fields_for, ArePutsOf};
 ghost use Rattle.pipe_world.specs.Queues.{AreKnown};
@@ -30,7 +30,7 @@ pub fn packet_fields(
 ) -> Barriers
     ensures { fields_of result ≡ fields_for network.now id.0 stamped next.0 barriers }
 {
-    if !network.is_host(id) {
+    if !network.topology().is_host(id) {
         return barriers;
     }
     let be = match stamped {
@@ -115,7 +115,7 @@ pub fn forwarded(
         put: List::new(alloc),
         unrouted: 0,
     };
-    if network.is_half(id) && !is_beacon(packet.kind) {
+    if network.topology().is_half(id) && !is_beacon(packet.kind) {
         let mut copy = packet.try_clone()?;
         copy.be = fields.be;
         copy.commit = fields.commit;
@@ -142,7 +142,7 @@ pub fn beacons(
     ensures known { IfOk result (AreKnown (length network.now.links)) }
 {
     let mut put = List::new(alloc);
-    'links: for link in network.outs(id) {
+    'links: for link in network.topology().outs(id) {
         put.push((*link, one_beacon(alloc, fields)))?;
     }
     Ok(put)

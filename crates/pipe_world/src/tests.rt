@@ -5,6 +5,7 @@ use pipe_base::{
     Body, Fate, HostId, LAST_STAMP, LinkId, List, NodeId, Outcome, Packet, PacketKind, Service, Ts,
 };
 use pipe_model::{Event, Record, Took};
+use pipe_topo::{Plan, Topology};
 use std::alloc::{AllocError, Global};
 use std::process::Abort;
 use std::test::Fail;
@@ -23,8 +24,8 @@ enum Act {
 fn play(rt: &impl Abort, alloc: Global, world: &mut World, act: Act) -> Result<(), Fail> {
     match act {
         Act::Send(host, now, to, byte) => {
-            assert!(rt; host < world.hosts());
-            assert!(rt; to < world.hosts());
+            assert!(rt; host < world.topology().hosts());
+            assert!(rt; to < world.topology().hosts());
             assert!(rt; now <= LAST_STAMP);
             let mut dests = List::new(alloc);
             dests.push((HostId(to), Body::new(alloc, &[byte])?))?;
@@ -36,7 +37,7 @@ fn play(rt: &impl Abort, alloc: Global, world: &mut World, act: Act) -> Result<(
             })?;
         }
         Act::Tick(node, now) => {
-            assert!(rt; node < world.nodes());
+            assert!(rt; node < world.topology().nodes());
             assert!(rt; now <= LAST_STAMP);
             world.step(Event::Tick {
                 node: NodeId(node),
@@ -46,7 +47,7 @@ fn play(rt: &impl Abort, alloc: Global, world: &mut World, act: Act) -> Result<(
         Act::Take(link, place) => take(rt, world, link, place, false)?,
         Act::Keep(link, place) => take(rt, world, link, place, true)?,
         Act::Lose(link, place) => {
-            assert!(rt; link < world.links());
+            assert!(rt; link < world.topology().links());
             world.step(Event::Lose {
                 link: LinkId(link),
                 place,
@@ -57,7 +58,7 @@ fn play(rt: &impl Abort, alloc: Global, world: &mut World, act: Act) -> Result<(
 }
 
 fn take(rt: &impl Abort, world: &mut World, link: u16, place: u32, keep: bool) -> Result<(), Fail> {
-    assert!(rt; link < world.links());
+    assert!(rt; link < world.topology().links());
     world.step(Event::Take {
         link: LinkId(link),
         place,
@@ -132,9 +133,17 @@ fn tell_body(text: &mut String, body: &Body) -> Result<(), AllocError> {
     Ok(())
 }
 
+fn star(rt: &impl Abort, alloc: Global, hosts: u16) -> Result<World, Fail> {
+    let plan = Plan::star(alloc, hosts, Ts(1000))?;
+    assert!(rt; plan.has_ends());
+    assert!(rt; plan.levels.len() < 1000);
+    assert!(rt; plan.cables.len() < 1000);
+    Ok(World::new(alloc, Topology::build(alloc, &plan)?)?)
+}
+
 /// Plays the events on a star of two hosts and compares what each record tells.
 fn compare(rt: &impl Abort, alloc: Global, schedule: &[(Act, &str)]) -> Result<World, Fail> {
-    let mut world = World::star(alloc, 2, Ts(1000))?;
+    let mut world = star(rt, alloc, 2)?;
     for (act, _) in schedule {
         play(rt, alloc, &mut world, *act)?;
     }
@@ -192,7 +201,7 @@ fn a_message_is_logged_by_the_beacon_that_passes_it_and_its_repeat_is_not(
         ],
     )?;
     for (link, count) in [(0u16, 0u32), (1, 1), (2, 0), (3, 0), (4, 0)] {
-        assert!(rt; link < world.links());
+        assert!(rt; link < world.topology().links());
         assert_eq!(rt; world.waiting(LinkId(link)), count);
     }
     Ok(())

@@ -159,7 +159,7 @@ fn barriers(node: &Node) -> Barriers
 fn fate_at(network: &Network, id: NodeId, node: &Node, packet: &Packet) -> Option<Fate>
     ensures { (link : ℕ) → result ≡ fate_of node.now.registers.be node.now.held.messages (got_of BestEffort network.now id.0 (Some (link, packet.now))) }
 {
-    if !network.is_host(id) || packet.dst.0 != id.0 || !is_message(packet.kind) {
+    if !network.topology().is_host(id) || packet.dst.0 != id.0 || !is_message(packet.kind) {
         return None;
     }
     let barrier = node.registers.be();

@@ -1,21 +1,24 @@
 // The world: a network, what its nodes keep, what waits, and all that happened.
-ghost use Rattle.std.specs.Prelude.{◌≡◌, ◌<◌, ◌≤◌, ℕ, [], IfOk, OnOk, OnErr, length, min, reverse, slice_index_or};
+ghost use Rattle.std.specs.Prelude.{◌≡◌, ◌<◌, ◌≤◌, ℕ, [], IfErr, IfOk, OnOk, OnErr, length, min, reverse, slice_index_or};
 ghost use Rattle.pipe_model.specs.Event.{IsOfGraph, IsBuilt};
+ghost use Rattle.pipe_model.specs.Items.{Overfills, items_of, most_items};
 ghost use Rattle.pipe_model.specs.Order.{AreLogsOrdered, AreStampsCausal, IsGenuine};
 ghost use Rattle.pipe_model.specs.Run.{IsHistory};
-ghost use Rattle.pipe_model.specs.Star.{star};
 ghost use Rattle.pipe_model.specs.Waiting.{waiting_on};
 ghost use Rattle.pipe_world.specs.declared.node.Node.{Node};
 ghost use Rattle.pipe_world.specs.Node as node;
 ghost use Rattle.pipe_world.specs.World.{Extends};
 
+use crate::fault::StepFault;
 use crate::happen::happen;
+use crate::history::History;
 use crate::network::Network;
 use crate::node::Node;
 use crate::queue::Queue;
 use crate::queues::empty_queues;
-use pipe_base::{LinkId, List, NoMemory, NodeId, Ts};
+use pipe_base::{LinkId, NoMemory, NodeId};
 use pipe_model::{Event, Trace};
+use pipe_topo::Topology;
 use std::alloc::Global;
 use std::marker::Model;
 
@@ -26,7 +29,7 @@ pub struct World {
     network: Network,
     nodes: Vec<Node>,
     queues: Vec<Queue>,
-    trace: Trace,
+    history: History,
 }
 
 impl Model for World {
@@ -34,35 +37,34 @@ impl Model for World {
 
     ghost Value = { GraphAndTrace };
 
-    ghost view = { λ w. record { graph = w.network; trace = w.trace } };
+    ghost view = { λ w. record { graph = w.network; trace = w.history } };
 
-    ghost invariant = { λ w. Stands w.network w.nodes.items w.queues.items w.trace };
+    ghost invariant = { λ w. Stands w.network w.nodes.items w.queues.items w.history };
 }
 
 impl World {
-    /// A star of hosts around one switch, to which nothing has happened.
-    pub fn star(alloc: Global, hosts: u16, patience: Ts) -> Result<World, NoMemory>
-        requires hosts { (1 ≤ hosts) × (hosts ≤ 64) }
-        requires patience { (1 ≤ patience.0) × (patience.0 ≤ 281474976710654) }
-        ensures { IfOk result (λ world. world ≡ record { graph = star hosts patience.0; trace = [] }) }
+    /// A network to which nothing has happened.
+    pub fn new(alloc: Global, topology: Topology) -> Result<World, NoMemory>
+        ensures { IfOk result (λ world. world ≡ record { graph = topology; trace = [] }) }
     {
-        let network = Network::star(alloc, hosts, patience)?;
-        let nodes = fresh_nodes(alloc, &network)?;
-        let queues = empty_queues(alloc, network.links())?;
+        let network = Network::new(alloc, topology)?;
+        let nodes = fresh_nodes(alloc, network.topology())?;
+        let queues = empty_queues(alloc, network.topology().links())?;
         Ok(World {
             alloc,
             network,
             nodes,
             queues,
-            trace: List::new(alloc),
+            history: History::new(alloc),
         })
     }
 
     /// Runs one event and appends its record.
-    pub fn step(&mut self, event: Event) -> Result<(), NoMemory>
+    pub fn step(&mut self, event: Event) -> Result<(), StepFault>
         requires event { IsOfGraph self.old.graph event }
         requires built { IsBuilt event }
         ensures ok { OnOk result (Extends self.old self.new event) }
+        ensures full { IfErr result (λ fault. (items : ℕ) → fault ≡ StepFault.Full items → Overfills self.old.graph self.old.trace event items) }
         ensures err { OnErr result (self.new ≡ self.old) }
     {
         happen(
@@ -70,7 +72,7 @@ impl World {
             &self.network,
             &mut self.nodes,
             &mut self.queues,
-            &mut self.trace,
+            &mut self.history,
             event,
         )
     }
@@ -78,42 +80,38 @@ impl World {
     /// All that happened, the oldest record first. It is a history by the rules, and the order of the channel holds of it.
     pub fn trace(&self) -> &Trace
         ensures trace { result.now ≡ self.now.trace }
+        ensures within { items_of self.now.trace ≤ most_items }
         ensures history { IsHistory self.now.graph (reverse self.now.trace) }
         ensures ordered { AreLogsOrdered self.now.graph (reverse self.now.trace) }
         ensures causal { AreStampsCausal self.now.graph (reverse self.now.trace) }
         ensures genuine { IsGenuine self.now.graph (reverse self.now.trace) }
     {
-        &self.trace
+        self.history.trace()
     }
 
     /// The trace by itself.
     pub fn into_trace(self) -> Trace
         ensures trace { result ≡ self.trace }
+        ensures within { items_of result ≤ most_items }
         ensures history { IsHistory self.graph (reverse result) }
         ensures ordered { AreLogsOrdered self.graph (reverse result) }
         ensures causal { AreStampsCausal self.graph (reverse result) }
         ensures genuine { IsGenuine self.graph (reverse result) }
     {
-        self.trace
+        self.history.into_trace()
     }
 
-    pub fn hosts(&self) -> u16
-        ensures hosts { result ≡ self.now.graph.hosts }
-        ensures nodes { self.now.graph.hosts ≤ self.now.graph.nodes }
+    pub fn topology(&self) -> &Topology
+        ensures { result.now ≡ self.now.graph }
     {
-        self.network.hosts()
+        self.network.topology()
     }
 
-    pub fn nodes(&self) -> u16
-        ensures { result ≡ self.now.graph.nodes }
+    /// How many packets and control messages were put so far.
+    pub fn items(&self) -> u32
+        ensures { result ≡ items_of self.now.trace }
     {
-        self.network.nodes()
-    }
-
-    pub fn links(&self) -> u16
-        ensures { result ≡ length self.now.graph.links }
-    {
-        self.network.links()
+        self.history.items()
     }
 
     /// How many packets wait on a link, at most 2^32 - 1.
@@ -133,13 +131,13 @@ fn waiting_in(queues: &[Queue], link: LinkId) -> u32
 }
 
 /// A node with its in-links for each number, to which nothing has happened.
-fn fresh_nodes(alloc: Global, network: &Network) -> Result<Vec<Node>, NoMemory>
-    ensures count { IfOk result (λ nodes. length nodes.items ≡ network.now.nodes) }
-    ensures stand { IfOk result (λ nodes. (n : ℕ) (d : Node) → n < network.now.nodes → node.Stands network.now n [] (slice_index_or nodes.items n d)) }
+fn fresh_nodes(alloc: Global, topology: &Topology) -> Result<Vec<Node>, NoMemory>
+    ensures count { IfOk result (λ nodes. length nodes.items ≡ topology.now.nodes) }
+    ensures stand { IfOk result (λ nodes. (n : ℕ) (d : Node) → n < topology.now.nodes → node.Stands topology.now n [] (slice_index_or nodes.items n d)) }
 {
     let mut nodes = Vec::new(alloc);
-    'nodes: for id in 0..network.nodes() {
-        nodes.push(Node::new(alloc, network.ins(NodeId(id)))?)?;
+    'nodes: for id in 0..topology.nodes() {
+        nodes.push(Node::new(alloc, topology.ins(NodeId(id)))?)?;
     }
     Ok(nodes)
 }

@@ -1,4 +1,4 @@
-use Rattle.std.proofs.Common.{rules, ◌≡◌, List, get_or, sym, subst, ap, ◌∙◌}
+use Rattle.std.proofs.Common.{rules, ◌≡◌, List, length, get_or, sym, subst, ap, ◌∙◌}
 use Rattle.std.proofs.lemmas.List.{get_or_push}
 use Rattle.pipe_base.specs.declared.name.LinkId.{LinkId}
 use Rattle.pipe_base.specs.declared.packet.Packet.{Packet}
@@ -11,8 +11,8 @@ pub returns-in-Ok-clause-queues_ok : goal.returns-in-Ok-clause-queues_ok
 returns-in-Ok-clause-queues_ok c = λ graph past stands.
     let read : c.index-as_slice-at.result ≡ c.args.«record» =
     c.index-as_slice-at.is
-    ∙ ap (λ (rs : List Record). get_or rs c.len-at.result c.index-as_slice-at.result) (c.as_slice-in-Ok.ensures ∙ c.in-Ok.ensures.ok)
-    ∙ get_or_push c.args.trace.now c.args.«record» c.index-as_slice-at.result c.len-at.result (sym c.len-at.ensures) in
+    ∙ ap (λ (rs : List Record). get_or rs c.len-at.result c.index-as_slice-at.result) (c.as_slice-in-Ok.ensures ∙ c.trace-in-Ok.ensures.trace ∙ c.in-Ok.ensures.ok)
+    ∙ get_or_push c.args.history.now c.args.«record» c.index-as_slice-at.result c.len-at.result (sym (c.len-at.ensures ∙ ap length c.trace.ensures.trace)) in
     let put : HavePut c.args.queues.now c.as_slice.result.now c.put_all.new.queues = search rules in
     entered graph past c.args.«record» c.args.queues.now c.put_all.new.queues c.take_out.new.queues
     (subst (λ (ps : List (LinkId × Packet)). HavePut c.args.queues.now ps c.put_all.new.queues) c.as_slice.ensures put)

@@ -4,7 +4,7 @@ use Rattle.std.proofs.lemmas.List.{drop_more, length-map}
 use Rattle.std.proofs.lemmas.List.Sums.{count_by-le-length}
 use Rattle.pipe_base.specs.declared.name.HostId.{HostId}
 use Rattle.pipe_base.specs.declared.packet.Packet.{Packet}
-use Rattle.pipe_base.specs.Route.{route}
+use Rattle.pipe_base.specs.ShortestRoute.{route}
 use Rattle.pipe_model.specs.Duties.{message_to, routed, lost}
 use Rattle.pipe_world.specs.Puts.{fields_of}
 use Rattle.pipe_world.proofs.Ways.{routed_more, lost_more}

@@ -7,5 +7,5 @@ use Rattle.pipe_world.proofs.world.fresh_nodes.Given as goal
 abbrev pub invariant-nodes : goal.invariant-nodes
 invariant-nodes l = record {
   count : length l.nodes.items ≡ l.id;
-  stand : (n : ℕ) (d : Node) → n < l.id → node.Stands l.network n [] (slice_index_or l.nodes.items n d);
+  stand : (n : ℕ) (d : Node) → n < l.id → node.Stands l.topology n [] (slice_index_or l.nodes.items n d);
 }

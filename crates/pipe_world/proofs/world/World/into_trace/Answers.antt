@@ -1,4 +1,5 @@
-use Rattle.std.proofs.Common.{reverse, subst}
+use Rattle.std.proofs.Common.{List, reverse, subst, sym}
+use Rattle.pipe_model.specs.declared.record.Record.{Record}
 use Rattle.pipe_model.specs.Order.{AreLogsOrdered, AreStampsCausal, IsGenuine}
 use Rattle.pipe_model_net.proofs.Genuine.{run_genuine}
 use Rattle.pipe_world.specs.World.{GraphAndTrace}
@@ -7,15 +8,18 @@ use Rattle.pipe_world.proofs.world.World.into_trace.Goals as goal
 
 pub returns-clause-ordered : goal.returns-clause-ordered
 returns-clause-ordered c =
-    subst (λ (v : GraphAndTrace). AreLogsOrdered v.graph (reverse c.self.inside.trace)) c.self.view_is
-    (run_ordered c.self.inside.network (reverse c.self.inside.trace) c.self.invariant.rules)
+    subst (λ (v : GraphAndTrace). AreLogsOrdered v.graph (reverse c.into_trace.result)) c.self.view_is
+    (subst (λ (t : List Record). AreLogsOrdered c.self.inside.network (reverse t)) (sym c.into_trace.ensures.trace)
+    (run_ordered c.self.inside.network (reverse c.self.inside.history) c.self.invariant.rules))
 
 pub returns-clause-causal : goal.returns-clause-causal
 returns-clause-causal c =
-    subst (λ (v : GraphAndTrace). AreStampsCausal v.graph (reverse c.self.inside.trace)) c.self.view_is
-    (run_causal c.self.inside.network (reverse c.self.inside.trace) c.self.invariant.rules)
+    subst (λ (v : GraphAndTrace). AreStampsCausal v.graph (reverse c.into_trace.result)) c.self.view_is
+    (subst (λ (t : List Record). AreStampsCausal c.self.inside.network (reverse t)) (sym c.into_trace.ensures.trace)
+    (run_causal c.self.inside.network (reverse c.self.inside.history) c.self.invariant.rules))
 
 pub returns-clause-genuine : goal.returns-clause-genuine
 returns-clause-genuine c =
-    subst (λ (v : GraphAndTrace). IsGenuine v.graph (reverse c.self.inside.trace)) c.self.view_is
-    (run_genuine c.self.inside.network (reverse c.self.inside.trace) c.self.invariant.rules)
+    subst (λ (v : GraphAndTrace). IsGenuine v.graph (reverse c.into_trace.result)) c.self.view_is
+    (subst (λ (t : List Record). IsGenuine c.self.inside.network (reverse t)) (sym c.into_trace.ensures.trace)
+    (run_genuine c.self.inside.network (reverse c.self.inside.history) c.self.invariant.rules))

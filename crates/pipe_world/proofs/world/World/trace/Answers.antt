@@ -8,14 +8,14 @@ use Rattle.pipe_world.proofs.world.World.trace.Goals as goal
 pub returns-clause-ordered : goal.returns-clause-ordered
 returns-clause-ordered c =
     subst (λ (v : GraphAndTrace). AreLogsOrdered v.graph (reverse v.trace)) c.self.view_is
-    (run_ordered c.self.inside.network (reverse c.self.inside.trace) c.self.invariant.rules)
+    (run_ordered c.self.inside.network (reverse c.self.inside.history) c.self.invariant.rules)
 
 pub returns-clause-causal : goal.returns-clause-causal
 returns-clause-causal c =
     subst (λ (v : GraphAndTrace). AreStampsCausal v.graph (reverse v.trace)) c.self.view_is
-    (run_causal c.self.inside.network (reverse c.self.inside.trace) c.self.invariant.rules)
+    (run_causal c.self.inside.network (reverse c.self.inside.history) c.self.invariant.rules)
 
 pub returns-clause-genuine : goal.returns-clause-genuine
 returns-clause-genuine c =
     subst (λ (v : GraphAndTrace). IsGenuine v.graph (reverse v.trace)) c.self.view_is
-    (run_genuine c.self.inside.network (reverse c.self.inside.trace) c.self.invariant.rules)
+    (run_genuine c.self.inside.network (reverse c.self.inside.history) c.self.invariant.rules)

@@ -1,0 +1,27 @@
+-- The records so far, and the count of what they put.
+use Rattle.std.specs.Prelude.{◌≡◌, ℕ, ◌+◌, ◌<◌, ◌≤◌, List}
+use Rattle.pipe_model.specs.declared.record.Record.{Record}
+use Rattle.pipe_model.specs.Items.{items_in, items_of, most_items}
+use Rattle.pipe_world.specs.declared.fault.StepFault.{StepFault}
+use Rattle.pipe_world.specs.declared.fault.StepFault.TheVariants.{Full}
+use Rattle.pipe_world.specs.declared.history.Refused.{Refused}
+
+-- the count is of what was put, and within the limit
+pub record IsCounted (items : ℕ) (trace : List Record) : Type 0 where
+  pub count_is : items ≡ items_of trace
+  pub within : items ≤ most_items
+
+-- with the record so much would have been put, and that is too much
+pub record IsOver (trace : List Record) (r : Record) (items : ℕ) : Type 0 where
+  pub items_are : items ≡ items_of trace + items_in r
+  pub many : most_items < items
+
+-- where a fault is that there is too much, the record would have been too much
+abbrev pub FullBy : List Record → Record → StepFault → Type 0
+FullBy trace r fault = (items : ℕ) → fault ≡ Full items → IsOver trace r items
+
+-- the record was handed back, nothing was appended
+pub record IsRefused (old new : List Record) (r : Record) (refused : Refused) : Type 0 where
+  pub record_is : refused.«record» ≡ r
+  pub same : new ≡ old
+  pub full : FullBy old r refused.fault
