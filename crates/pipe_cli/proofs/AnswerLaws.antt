@@ -1,27 +1,49 @@
 -- Lemmas on statuses.
-use Rattle.std.proofs.Common.{◌≡◌, ◌⊎◌, ℕ, ◌+◌, ◌<◌, ◌≤◌, Bool, true, false, List, [], ◌∷◌, ◌++◌, length, take, drop, Option, None, Some, refl, ap, sym, subst, ◌∙◌, arith, inl, inr, append-nil, nat_lt, if◌then◌else◌}
-use Rattle.std.specs.Io.KnownBytes.{Consumes, IsAtEnd}
-use Rattle.std.specs.Str.Lines.{lines}
+use Rattle.std.proofs.Common.{◌≡◌, ◌≢◌, ◌⊎◌, ℕ, ◌<◌, ◌≤◌, Bool, true, false, List, [], ◌++◌, length, reverse, take, Option, None, Some, refl, ap, sym, subst, ◌∙◌, arith, inl, inr, append-nil, nat_lt, if◌then◌else◌}
+use Rattle.std.specs.Prelude.{Result}
+use Rattle.std.specs.Prelude as result
 use Rattle.std.proofs.lemmas.Bool.{cases_lt}
 use Rattle.std.proofs.lemmas.Bool.Decides.{nat_tests}
 use Rattle.std.proofs.lemmas.List.{take_at, take_all}
 use Rattle.pipe_base.specs.declared.fault.Size.TheVariants.{Bytes}
+use Rattle.pipe_base.specs.Graph.{Graph}
 use Rattle.pipe_model.specs.declared.record.Record.{Record}
+use Rattle.pipe_text_input.specs.declared.input.Input.{Input}
+use Rattle.pipe_text_input.specs.declared.input.InputFault.{InputFault}
+use Rattle.pipe_text_input.specs.declared.input.InputFault.TheVariants as fault
+use Rattle.pipe_text_input.specs.Content.{Content, content_of}
+use Rattle.pipe_text_input.specs.Read.{IsRead}
+use Rattle.pipe_text_log.specs.LogText.{log_text}
 use Rattle.pipe_cli.specs.declared.status.Status.{Status}
 use Rattle.pipe_cli.specs.declared.status.Status.TheVariants.{Ok, Usage, ReadFault, WriteFault, BadTopology, BadSchedule, TooLong, NoMemory}
-use Rattle.pipe_cli.specs.Answer.{Asks, IsOfInput, IsWritten, DoesReplay}
-use Rattle.pipe_cli.specs.Input.{IsInput, IsRefusal, status_of, lines_status, schedule_status, star_of}
+use Rattle.pipe_cli.specs.Answer.{AsksFor, CanRun, IsOfInput, IsWritten, DoesReplay}
+use Rattle.pipe_cli.specs.Input.{says, told}
 use Rattle.pipe_cli.specs.Read.{WasRead}
-use Rattle.pipe_cli.specs.Replay.{Replays}
-use Rattle.pipe_cli.specs.Schedule.{schedule_of}
+use Rattle.pipe_cli.specs.Replay.{IsOrderedRun, IsOverfull, IsRefusal, Replays}
+use Rattle.pipe_cli.specs.Running.{IsStopped}
+use Rattle.pipe_cli.specs.Status.{status_of_fault}
 
--- an input asks for Ok
-input_status : (bytes : List ℕ) (trace : List Record) (text : List ℕ) → Replays bytes trace text → status_of bytes ≡ Ok
-input_status bytes trace text done =
-    let few : nat_lt 67108864 (length bytes) ≡ false = let within = done.input.within in grind (arith, nat_tests) in
-    ap (λ t. if t then TooLong Bytes 67108865 else lines_status (star_of (lines bytes)) (drop 1 (lines bytes))) few
-    ∙ ap (λ star. lines_status star (drop 1 (lines bytes))) done.input.star
-    ∙ ap schedule_status done.input.schedule
+-- what is short enough says what its content is
+pub short_says : (bytes : List ℕ) → length bytes ≤ 67108864 → says bytes ≡ told (content_of bytes)
+short_says bytes few =
+    let test : nat_lt 67108864 (length bytes) ≡ false = grind (arith, nat_tests) in
+    ap (λ (t : Bool). if t then result.Err (TooLong Bytes 67108865) else told (content_of bytes)) test
+
+pub long_says : (bytes : List ℕ) → 67108864 < length bytes → says bytes ≡ result.Err (TooLong Bytes 67108865)
+long_says bytes many =
+    let test : nat_lt 67108864 (length bytes) ≡ true = grind (arith, nat_tests) in
+    ap (λ (t : Bool). if t then result.Err (TooLong Bytes 67108865) else told (content_of bytes)) test
+
+-- a fault of the content is a refusal
+pub fault_refuses : (bytes : List ℕ) (bad : InputFault) → length bytes ≤ 67108864 → (bad ≢ fault.NoMemory → content_of bytes ≡ result.Err bad) → IsRefusal bytes (status_of_fault bad)
+fault_refuses bytes (fault.Plan f) few is = short_says bytes few ∙ ap told (is (λ same. cc))
+fault_refuses bytes (fault.TooManyEvents count) few is = short_says bytes few ∙ ap told (is (λ same. cc))
+fault_refuses bytes (fault.Line line kind) few is = short_says bytes few ∙ ap told (is (λ same. cc))
+fault_refuses bytes fault.NoMemory few is = tt
+
+-- what was replayed asks for Ok
+replay_runs : (bytes : List ℕ) (trace : List Record) (text : List ℕ) → Replays bytes trace text → CanRun bytes
+replay_runs bytes trace text done = record { content = done.content; said = done.said; trace = trace; run = done.run }
 
 -- what was read is the front of what was there
 front_from : (rest : Option (List ℕ)) (bytes all : List ℕ) → WasRead (Some all) rest bytes → bytes ≡ take 67108865 all
@@ -37,27 +59,49 @@ front_from (Some more) bytes all read =
 front : (left rest : Option (List ℕ)) (bytes all : List ℕ) → WasRead left rest bytes → left ≡ Some all → bytes ≡ take 67108865 all
 front left rest bytes all read is = front_from rest bytes all (subst (λ o. WasRead o rest bytes) is read)
 
+asked_in_front : (left rest : Option (List ℕ)) (bytes all : List ℕ) (status : Status) → AsksFor bytes status → WasRead left rest bytes → left ≡ Some all
+    → AsksFor (take 67108865 all) status
+asked_in_front left rest bytes all status asks read is = subst (λ (xs : List ℕ). AsksFor xs status) (front left rest bytes all read is) asks
+
 -- a refusal is what the bytes ask for, or want of memory
+refusal_asks : (bytes : List ℕ) (status : Status) → IsRefusal bytes status → AsksFor bytes status ⊎ (status ≡ NoMemory)
+refusal_asks bytes Ok refusal = absurd refusal
+refusal_asks bytes Usage refusal = absurd refusal
+refusal_asks bytes ReadFault refusal = absurd refusal
+refusal_asks bytes WriteFault refusal = absurd refusal
+refusal_asks bytes (BadTopology fault) refusal = inl refusal
+refusal_asks bytes (BadSchedule line kind) refusal = inl refusal
+refusal_asks bytes (TooLong what count) refusal = inl refusal
+refusal_asks bytes NoMemory refusal = inr refl
+
 pub refusal_complete : (left rest : Option (List ℕ)) (bytes all : List ℕ) (status : Status) → IsRefusal bytes status → WasRead left rest bytes
-    → left ≡ Some all → (status ≡ status_of (take 67108865 all)) ⊎ (status ≡ NoMemory)
-refusal_complete left rest bytes all Ok refusal read is = absurd refusal
-refusal_complete left rest bytes all Usage refusal read is = absurd refusal
-refusal_complete left rest bytes all ReadFault refusal read is = absurd refusal
-refusal_complete left rest bytes all WriteFault refusal read is = absurd refusal
-refusal_complete left rest bytes all (BadTopology fault) refusal read is = inl (sym refusal ∙ ap status_of (front left rest bytes all read is))
-refusal_complete left rest bytes all (BadSchedule line kind) refusal read is = inl (sym refusal ∙ ap status_of (front left rest bytes all read is))
-refusal_complete left rest bytes all (TooLong what count) refusal read is = inl (sym refusal ∙ ap status_of (front left rest bytes all read is))
-refusal_complete left rest bytes all NoMemory refusal read is = inr refl
+    → left ≡ Some all → AsksFor (take 67108865 all) status ⊎ (status ≡ NoMemory)
+refusal_complete left rest bytes all status refusal read is =
+    elim (refusal_asks bytes status refusal) [
+      | inl asks ↦ inl (asked_in_front left rest bytes all status asks read is)
+      | inr none ↦ inr none
+    ]
+
+-- a refusal is of what was read
+pub refusal_of_input : (left rest : Option (List ℕ)) (bytes : List ℕ) (status : Status) → IsRefusal bytes status → WasRead left rest bytes → IsOfInput left rest status
+refusal_of_input left rest bytes Ok refusal read = absurd refusal
+refusal_of_input left rest bytes Usage refusal read = tt
+refusal_of_input left rest bytes ReadFault refusal read = tt
+refusal_of_input left rest bytes WriteFault refusal read = absurd refusal
+refusal_of_input left rest bytes (BadTopology fault) refusal read = record { bytes = bytes; read = read; asks = refusal }
+refusal_of_input left rest bytes (BadSchedule line kind) refusal read = record { bytes = bytes; read = read; asks = refusal }
+refusal_of_input left rest bytes (TooLong what count) refusal read = record { bytes = bytes; read = read; asks = refusal }
+refusal_of_input left rest bytes NoMemory refusal read = tt
 
 -- what was written is of the input
 pub written_of_input : (left rest old new : Option (List ℕ)) (bytes text : List ℕ) (trace : List Record) (status : Status)
     → IsWritten status old new text → WasRead left rest bytes → Replays bytes trace text → IsOfInput left rest status
 written_of_input left rest old new bytes text trace Ok written read done =
-    record { bytes = bytes; read = read; asks = input_status bytes trace text done }
+    record { bytes = bytes; read = read; asks = replay_runs bytes trace text done }
 written_of_input left rest old new bytes text trace Usage written read done = tt
 written_of_input left rest old new bytes text trace ReadFault written read done = tt
 written_of_input left rest old new bytes text trace WriteFault written read done =
-    record { bytes = bytes; read = read; asks = input_status bytes trace text done }
+    record { bytes = bytes; read = read; asks = replay_runs bytes trace text done }
 written_of_input left rest old new bytes text trace (BadTopology fault) written read done = absurd written
 written_of_input left rest old new bytes text trace (BadSchedule line kind) written read done = absurd written
 written_of_input left rest old new bytes text trace (TooLong what count) written read done = absurd written
@@ -66,9 +110,9 @@ written_of_input left rest old new bytes text trace NoMemory written read done =
 -- where no write failed, Ok is what the bytes ask for
 pub written_complete : (left rest old new : Option (List ℕ)) (bytes all text : List ℕ) (trace : List Record) (status : Status)
     → IsWritten status old new text → (status ≡ WriteFault → ⊥) → WasRead left rest bytes → Replays bytes trace text → left ≡ Some all
-    → (status ≡ status_of (take 67108865 all)) ⊎ (status ≡ NoMemory)
+    → AsksFor (take 67108865 all) status ⊎ (status ≡ NoMemory)
 written_complete left rest old new bytes all text trace Ok written whole read done is =
-    inl (sym (input_status bytes trace text done) ∙ ap status_of (front left rest bytes all read is))
+    inl (asked_in_front left rest bytes all Ok (replay_runs bytes trace text done) read is)
 written_complete left rest old new bytes all text trace Usage written whole read done is = absurd written
 written_complete left rest old new bytes all text trace ReadFault written whole read done is = absurd written
 written_complete left rest old new bytes all text trace WriteFault written whole read done is = absurd (whole refl)
@@ -77,15 +121,45 @@ written_complete left rest old new bytes all text trace (BadSchedule line kind) 
 written_complete left rest old new bytes all text trace (TooLong what count) written whole read done is = absurd written
 written_complete left rest old new bytes all text trace NoMemory written whole read done is = inr refl
 
+-- bytes that say something are not too many, and that is their content
+told_ok : (told_as : Result Content InputFault) (content : Content) → told told_as ≡ result.Ok content → told_as ≡ result.Ok content
+told_ok (result.Ok other) content is = cc
+told_ok (result.Err bad) content is = cc
+
+said_cases : (many : Bool) (told_as : Result Content InputFault) (content : Content) → (if many then result.Err (TooLong Bytes 67108865) else told told_as) ≡ result.Ok content
+    → (many ≡ false) × (told_as ≡ result.Ok content)
+said_cases true told_as content is = cc
+said_cases false told_as content is = (refl, told_ok told_as content is)
+
 pub does_replay : (left rest old new : Option (List ℕ)) (bytes text : List ℕ) (trace : List Record) (status : Status)
     → IsWritten status old new text → WasRead left rest bytes → Replays bytes trace text → DoesReplay status left rest old new trace
-does_replay left rest old new bytes text trace status written read done = record {
-  bytes = bytes;
-  place = done.place;
-  events = done.events;
-  read = read.consumed;
-  end = read.end done.input.within;
-  input = done.input;
-  run = done.run;
-  written = subst (λ xs. IsWritten status old new xs) done.text_is written;
+does_replay left rest old new bytes text trace status written read done =
+    let both = said_cases (nat_lt 67108864 (length bytes)) (content_of bytes) done.content done.said in
+    let within : length bytes ≤ 67108864 = let test = both.0 in grind (arith, nat_tests) in
+    record {
+      bytes = bytes;
+      content = done.content;
+      read = read.consumed;
+      end = read.end within;
+      within = within;
+      input = both.1;
+      run = done.run;
+      written = subst (λ xs. IsWritten status old new xs) done.text_is written;
+    }
+
+pub overfull : (bytes : List ℕ) (input : Input) (graph : Graph) (items : ℕ) → length bytes ≤ 67108864 → IsRead (content_of bytes) input → graph ≡ input.topology
+    → IsStopped graph input.events items → IsOverfull bytes items
+overfull bytes input graph items few read graph_is stopped = record {
+  content = record { names = input.names; plan = input.plan; events = input.events };
+  said = short_says bytes few ∙ ap told read.content;
+  stopped = subst (λ (g : Graph). IsStopped g input.events items) (graph_is ∙ read.built) stopped;
+}
+
+pub replayed : (bytes text : List ℕ) (input : Input) (graph : Graph) (trace : List Record) → length bytes ≤ 67108864 → IsRead (content_of bytes) input → graph ≡ input.topology
+    → IsOrderedRun graph input.events trace → text ≡ log_text input.names graph (reverse trace) → Replays bytes trace text
+replayed bytes text input graph trace few read graph_is run text_is = record {
+  content = record { names = input.names; plan = input.plan; events = input.events };
+  said = short_says bytes few ∙ ap told read.content;
+  run = subst (λ (g : Graph). IsOrderedRun g input.events trace) (graph_is ∙ read.built) run;
+  text_is = text_is ∙ ap (λ (g : Graph). log_text input.names g (reverse trace)) (graph_is ∙ read.built);
 }

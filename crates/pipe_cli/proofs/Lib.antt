@@ -1,10 +1,4 @@
 pub mod AnswerLaws
 pub mod FormLaws
-pub mod EventLaws
-pub mod ReceiverLaws
-pub mod RunLaws
-pub mod ScheduleLaws
-pub mod LogLaws
 pub mod OutsideLaws
-pub mod RangeLaws
-pub mod StarLaws
+pub mod RunLaws

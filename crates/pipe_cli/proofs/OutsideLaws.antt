@@ -1,5 +1,5 @@
 -- Lemmas on what is read and written by several calls.
-use Rattle.std.proofs.Common.{◌≡◌, ℕ, ◌+◌, ◌-◌, arith, rules, List, [], ◌∷◌, ◌++◌, take, drop, length, Option, None, Some, refl, ap, sym, ◌∙◌, append_assoc, append-nil}
+use Rattle.std.proofs.Common.{◌≡◌, ℕ, ◌+◌, ◌-◌, arith, rules, List, [], ◌++◌, take, drop, length, Option, None, Some, refl, ap, sym, ◌∙◌, append_assoc, append-nil}
 use Rattle.std.proofs.lemmas.List.{places, same_lists, take_rest}
 use Rattle.std.specs.Io.KnownBytes.{Consumes, Appends, Keeps}
 

@@ -1,23 +1,43 @@
 -- What the status of a call has to do with what was read and written.
 use Rattle.std.specs.Prelude.{◌≡◌, ◌⊎◌, ℕ, ◌≤◌, List, length, reverse, take, Option, Some}
+use Rattle.std.specs.Prelude as result
 use Rattle.std.specs.Io.KnownBytes.{Appends, Consumes, IsAtEnd}
 use Rattle.pipe_base.specs.Outside.{Rose}
-use Rattle.pipe_model.specs.declared.event.Event.{Event}
 use Rattle.pipe_model.specs.declared.record.Record.{Record}
+use Rattle.pipe_text_input.specs.Content.{Content, content_of}
+use Rattle.pipe_text_log.specs.LogText.{log_text}
+use Rattle.pipe_topo.specs.Plan.{graph_of}
 use Rattle.pipe_cli.specs.declared.status.Status.{Status}
 use Rattle.pipe_cli.specs.declared.status.Status.TheVariants.{Ok, Usage, ReadFault, WriteFault, BadTopology, BadSchedule, TooLong, NoMemory}
 use Rattle.pipe_cli.specs.Form.{IsReplayForm}
-use Rattle.pipe_cli.specs.Input.{IsInput, status_of}
-use Rattle.pipe_cli.specs.LogText.{log_text}
-use Rattle.pipe_cli.specs.Named.{Named}
+use Rattle.pipe_cli.specs.Input.{says}
 use Rattle.pipe_cli.specs.Read.{WasRead}
-use Rattle.pipe_cli.specs.Replay.{IsOrderedRun}
+use Rattle.pipe_cli.specs.Replay.{IsOrderedRun, IsTooLong}
+
+-- the bytes tell a network and events, and their run puts no more than it may
+pub record CanRun (bytes : List ℕ) : Type 0 where
+  pub content : Content
+  pub said : says bytes ≡ result.Ok content
+  pub trace : List Record
+  pub run : IsOrderedRun (graph_of content.plan) content.events trace
+
+-- The status that an input asks for, where nothing fails and there is memory: no two statuses are asked for by the same input,
+-- since the rules leave each record one form.
+abbrev pub AsksFor : List ℕ → Status → Type 0
+AsksFor bytes Ok = CanRun bytes
+AsksFor bytes Usage = ⊥
+AsksFor bytes ReadFault = ⊥
+AsksFor bytes WriteFault = ⊥
+AsksFor bytes (BadTopology fault) = says bytes ≡ result.Err (BadTopology fault)
+AsksFor bytes (BadSchedule line kind) = says bytes ≡ result.Err (BadSchedule line kind)
+AsksFor bytes (TooLong what count) = IsTooLong bytes what count
+AsksFor bytes NoMemory = ⊥
 
 -- these bytes were read, and ask for this status
 pub record Asks (left rest : Option (List ℕ)) (status : Status) : Type 0 where
   pub bytes : List ℕ
   pub read : WasRead left rest bytes
-  pub asks : status_of bytes ≡ status
+  pub asks : AsksFor bytes status
 
 -- A refusal of the input is that of its first fault; Ok and a failed write come where it has none.
 abbrev pub IsOfInput : Option (List ℕ) → Option (List ℕ) → Status → Type 0
@@ -50,15 +70,15 @@ IsWritten NoMemory old new text = ⊥
 -- The source was read to its end, its bytes are an input, the trace is the run of the input, and its log text was written.
 pub record DoesReplay (status : Status) (left rest old new : Option (List ℕ)) (trace : List Record) : Type 0 where
   pub bytes : List ℕ
-  pub place : Named
-  pub events : List Event
+  pub content : Content
   pub read : Consumes left rest bytes
   pub end : IsAtEnd rest
-  pub input : IsInput bytes place events
-  pub run : IsOrderedRun place.graph events trace
-  pub written : IsWritten status old new (log_text place (reverse trace))
+  pub within : length bytes ≤ 67108864
+  pub input : content_of bytes ≡ result.Ok content
+  pub run : IsOrderedRun (graph_of content.plan) content.events trace
+  pub written : IsWritten status old new (log_text content.names (graph_of content.plan) (reverse trace))
 
 -- Where nothing fails and there is memory, the status is what the first bytes of the source ask for.
 abbrev pub IsComplete : List (List ℕ) → Option (List ℕ) → Status → Type 0
 IsComplete words left status =
-    IsReplayForm words → (bytes : List ℕ) → left ≡ Some bytes → (status ≡ status_of (take 67108865 bytes)) ⊎ (status ≡ NoMemory)
+    IsReplayForm words → (bytes : List ℕ) → left ≡ Some bytes → AsksFor (take 67108865 bytes) status ⊎ (status ≡ NoMemory)

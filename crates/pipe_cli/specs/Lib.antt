@@ -1,15 +1,7 @@
-pub mod Acting
 pub mod Answer
-pub mod Event
 pub mod Form
-pub mod HostLog
 pub mod Input
-pub mod LogText
-pub mod Named
-pub mod Printed
 pub mod Read
-pub mod Receivers
 pub mod Replay
-pub mod Schedule
-pub mod Star
+pub mod Running
 pub mod Status

@@ -1,5 +1,5 @@
 -- What is read of an input that may be too long.
-use Rattle.std.specs.Prelude.{◌≡◌, ℕ, ◌≤◌, List, length, Option}
+use Rattle.std.specs.Prelude.{ℕ, ◌≤◌, List, length, Option}
 use Rattle.std.specs.Io.KnownBytes.{Consumes, IsAtEnd}
 
 -- these bytes were read from the source: to its end, or one byte more than an input may have

@@ -1,26 +1,55 @@
 -- What a replay shows of an input.
-use Rattle.std.specs.Prelude.{◌≡◌, ℕ, List, reverse}
+use Rattle.std.specs.Prelude.{◌≡◌, ℕ, ◌≤◌, List, reverse, Ok, Err}
+use Rattle.pipe_base.specs.declared.fault.Size.{Size}
+use Rattle.pipe_base.specs.declared.fault.Size.TheVariants.{Bytes, Events, Items}
 use Rattle.pipe_base.specs.Graph.{Graph}
 use Rattle.pipe_model.specs.declared.event.Event.{Event}
 use Rattle.pipe_model.specs.declared.record.Record.{Record}
+use Rattle.pipe_model.specs.Items.{items_of, most_items}
 use Rattle.pipe_model.specs.Order.{AreLogsOrdered, AreStampsCausal, IsGenuine}
 use Rattle.pipe_model.specs.Run.{IsRun}
-use Rattle.pipe_cli.specs.Input.{IsInput}
-use Rattle.pipe_cli.specs.LogText.{log_text}
-use Rattle.pipe_cli.specs.Named.{Named}
+use Rattle.pipe_text_input.specs.Content.{Content}
+use Rattle.pipe_text_log.specs.LogText.{log_text}
+use Rattle.pipe_topo.specs.Plan.{graph_of}
+use Rattle.pipe_cli.specs.declared.status.Status.{Status}
+use Rattle.pipe_cli.specs.declared.status.Status.TheVariants as status
+use Rattle.pipe_cli.specs.Input.{says}
+use Rattle.pipe_cli.specs.Running.{IsStopped}
 
--- The trace is the run of these events, and the order of the channel holds of it: logs rise, stamps are above what was logged,
--- and what is logged was sent.
+-- The trace is the run of these events, it puts no more than it may, and the order of the channel holds of it: logs rise,
+-- stamps are above what was logged, and what is logged was sent.
 pub record IsOrderedRun (graph : Graph) (events : List Event) (trace : List Record) : Type 0 where
   pub run : IsRun graph events trace
+  pub within : items_of trace ≤ most_items
   pub ordered : AreLogsOrdered graph (reverse trace)
   pub causal : AreStampsCausal graph (reverse trace)
   pub genuine : IsGenuine graph (reverse trace)
 
 -- the bytes tell a network and events, the trace is their run, and the text is that of its logs
 pub record Replays (bytes : List ℕ) (trace : List Record) (text : List ℕ) : Type 0 where
-  pub place : Named
-  pub events : List Event
-  pub input : IsInput bytes place events
-  pub run : IsOrderedRun place.graph events trace
-  pub text_is : text ≡ log_text place (reverse trace)
+  pub content : Content
+  pub said : says bytes ≡ Ok content
+  pub run : IsOrderedRun (graph_of content.plan) content.events trace
+  pub text_is : text ≡ log_text content.names (graph_of content.plan) (reverse trace)
+
+-- the bytes tell a network and events, and their run has to stop
+pub record IsOverfull (bytes : List ℕ) (items : ℕ) : Type 0 where
+  pub content : Content
+  pub said : says bytes ≡ Ok content
+  pub stopped : IsStopped (graph_of content.plan) content.events items
+
+abbrev pub IsTooLong : List ℕ → Size → ℕ → Type 0
+IsTooLong bytes Bytes count = says bytes ≡ Err (status.TooLong Bytes count)
+IsTooLong bytes Events count = says bytes ≡ Err (status.TooLong Events count)
+IsTooLong bytes Items count = IsOverfull bytes count
+
+-- a refusal of this input: its first fault, or a run that puts too much; want of memory may come at any time
+abbrev pub IsRefusal : List ℕ → Status → Type 0
+IsRefusal bytes status.Ok = ⊥
+IsRefusal bytes status.Usage = ⊥
+IsRefusal bytes status.ReadFault = ⊥
+IsRefusal bytes status.WriteFault = ⊥
+IsRefusal bytes (status.BadTopology fault) = says bytes ≡ Err (status.BadTopology fault)
+IsRefusal bytes (status.BadSchedule line kind) = says bytes ≡ Err (status.BadSchedule line kind)
+IsRefusal bytes (status.TooLong what count) = IsTooLong bytes what count
+IsRefusal bytes status.NoMemory = Unit {0}

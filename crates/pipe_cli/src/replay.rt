@@ -1,31 +1,31 @@
 // A replay: the events of an input, run one by one, and the logs of the run as text.
-ghost use Rattle.std.specs.Prelude.{◌≡◌, ◌≤◌, All, length, reverse, IfOk, IfErr};
-ghost use Rattle.pipe_model.specs.Event.{IsOfGraph, IsBuilt};
-ghost use Rattle.pipe_cli.specs.Input.{IsRefusal};
-ghost use Rattle.pipe_cli.specs.LogText.{log_text};
-ghost use Rattle.pipe_cli.specs.Named.{Named};
-ghost use Rattle.pipe_cli.specs.Replay.{IsOrderedRun, Replays};
+ghost use Rattle.std.specs.Prelude.{◌≡◌, ◌≤◌, ℕ, All, List, [], length, map, IfOk, IfErr, OnOk};
+ghost use Rattle.pipe_model.specs.Run.{event_of};
+ghost use Rattle.pipe_text_input.specs.Content.{content_of};
+ghost use Rattle.pipe_text_input.specs.Read.{IsRead};
+ghost use Rattle.pipe_text_schedule.specs.Line.{CanHappen};
+ghost use Rattle.pipe_cli.specs.Replay.{IsRefusal, Replays};
+ghost use Rattle.pipe_cli.specs.Running.{IsStopped};
 
-use crate::input::{Input, read_input};
-use crate::log_text::print_logs;
 use crate::read::INPUT_LIMIT;
-use crate::star::Star;
-use crate::status::Status;
-use pipe_base::{NoMemory, Size};
-use pipe_model::{Event, Trace};
-use pipe_world::World;
+use crate::status::{Status, status_of_fault};
+use pipe_base::Size;
+use pipe_model::{EventList, Trace};
+use pipe_text_input::{Input, read_input};
+use pipe_text_log::{Text, print_logs};
+use pipe_world::{StepFault, World};
 use std::alloc::Global;
 
 /// What happened, and its log text.
 #[derive(Drop)]
 pub struct Replayed {
     pub trace: Trace,
-    pub text: Vec<u8>,
+    pub text: Text,
 }
 
 /// Runs an input, or answers its refusal.
 pub fn replay(alloc: Global, bytes: &[u8]) -> Result<Replayed, Status>
-    ensures ok { IfOk result (λ done. Replays bytes.now done.trace done.text.items) }
+    ensures ok { IfOk result (λ done. Replays bytes.now done.trace done.text) }
     ensures err { IfErr result (IsRefusal bytes.now) }
 {
     if bytes.len() > INPUT_LIMIT {
@@ -34,29 +34,57 @@ pub fn replay(alloc: Global, bytes: &[u8]) -> Result<Replayed, Status>
             count: 67_108_865,
         });
     }
-    let input = match read_input(alloc, bytes) {
-        Ok(input) => input,
-        Err(refusal) => return Err(refusal),
-    };
-    let Input { star, events } = input;
-    let Ok(trace) = run_events(alloc, &star, events) else {
-        return Err(Status::NoMemory);
-    };
-    let Ok(text) = print_logs(alloc, &star, &trace) else {
-        return Err(Status::NoMemory);
-    };
-    Ok(Replayed { trace, text })
+    match read_input(alloc, bytes) {
+        Ok(input) => run_input(alloc, input),
+        Err(fault) => Err(status_of_fault(fault)),
+    }
 }
 
-fn run_events(alloc: Global, star: &Star, events: Vec<Event>) -> Result<Trace, NoMemory>
-    requires { All (λ e. IsOfGraph star.now.graph e × IsBuilt e) events.items }
-    ensures { IfOk result (λ trace. IsOrderedRun star.now.graph events.items trace) }
+fn run_input(alloc: Global, input: Input) -> Result<Replayed, Status>
+    requires { All (CanHappen input.topology) input.events }
+    ensures ok { IfOk result (λ done. (bytes : List ℕ) → length bytes ≤ 67108864 → IsRead (content_of bytes) input → Replays bytes done.trace done.text) }
+    ensures err { IfErr result (λ status. (bytes : List ℕ) → length bytes ≤ 67108864 → IsRead (content_of bytes) input → IsRefusal bytes status) }
 {
-    let mut world = World::star(alloc, star.hosts(), star.patience())?;
-    let mut left = events;
+    let Input {
+        names,
+        topology,
+        events,
+        ..
+    } = input;
+    let Ok(mut world) = World::new(alloc, topology) else {
+        return Err(Status::NoMemory);
+    };
+    match run_events(&mut world, events) {
+        Ok(()) => {}
+        Err(StepFault::NoMemory) => return Err(Status::NoMemory),
+        Err(StepFault::Full { items }) => {
+            return Err(Status::TooLong {
+                what: Size::Items,
+                count: items,
+            });
+        }
+    }
+    let Ok(text) = print_logs(alloc, &names, world.topology(), world.trace()) else {
+        return Err(Status::NoMemory);
+    };
+    Ok(Replayed {
+        trace: world.into_trace(),
+        text,
+    })
+}
+
+/// Runs the events in their order, up to the first that is refused.
+fn run_events(world: &mut World, events: EventList) -> Result<(), StepFault>
+    requires fresh { world.old.trace ≡ [] }
+    requires known { All (CanHappen world.old.graph) events }
+    ensures graph { world.new.graph ≡ world.old.graph }
+    ensures ran { OnOk result (map event_of world.new.trace ≡ events) }
+    ensures stopped { IfErr result (λ fault. (items : ℕ) → fault ≡ StepFault.Full items → IsStopped world.old.graph events items) }
+{
+    let mut left = events.into_vec();
     left.reverse();
     'running: while let Some(event) = left.pop() {
         world.step(event)?;
     }
-    Ok(world.into_trace())
+    Ok(())
 }

@@ -2,9 +2,13 @@
 
 ghost use Rattle.std.specs.Prelude.{◌<◌};
 
-use crate::{PlanFault, Status, Words, exit_number, run};
-use pipe_base::{List, MemorySink, MemorySource, Size, SteadySink, SteadySource};
+use crate::{Status, Words, exit_number, run};
+use pipe_base::{
+    LinkId, List, MemorySink, MemorySource, Packet, PacketKind, Size, SteadySink, SteadySource,
+};
 use pipe_text::LineKind;
+use pipe_text_plan::{KeyName, PlanFault};
+use pipe_topo::TopoFault;
 use std::alloc::Global;
 use std::test::Fail;
 
@@ -111,41 +115,106 @@ fn writes_the_logs_of_a_schedule(rt: HostRuntime) -> Result<(), Fail> {
     Ok(())
 }
 
+/// Two leaves with a host each, two spines, and a cable from each leaf to each spine.
+const TWO_LEAVES: &str =
+    "patience = 100\nhosts = [\"h0\", \"h1\"]\nswitches = [\"t0 1\", \"t1 1\", \"c0 2\", \"c1 2\"]\n\
+     cables = [\"h0 t0\", \"h1 t1\", \"t0 c0\", \"t0 c1\", \"t1 c0\", \"t1 c1\"]\n---\n\
+     send h0 best 10 h1=aa\ntake 0 0\nsend h0 best 20 h0=bb\ntake 0 0\n";
+
+// The link, the sender, the receiver, the timestamp and the barriers of a message on its way.
+fn way(put: &(LinkId, Packet)) -> [u64; 6] {
+    let (link, packet) = put;
+    [
+        u64::from(link.0),
+        u64::from(packet.src.0),
+        u64::from(packet.dst.0),
+        packet.ts.0,
+        packet.be.0,
+        packet.commit.0,
+    ]
+}
+
+#[test]
+fn goes_up_to_a_spine_where_it_must_and_turns_where_it_can(rt: HostRuntime) -> Result<(), Fail> {
+    let alloc = rt.alloc();
+    let mut source = SteadySource::new(alloc, TWO_LEAVES.as_bytes())?;
+    let outcome = run(
+        alloc,
+        &words(alloc, &["replay"])?,
+        &mut source,
+        &mut SteadySink::new(),
+    );
+    assert_eq!(rt; outcome.status, Status::Ok);
+    let ways = [
+        [0, 0, 1, 10, 10, 11],
+        [6, 0, 1, 10, 10, 11],
+        [0, 0, 0, 20, 20, 21],
+        [12, 0, 0, 20, 20, 21],
+    ];
+    assert_eq!(rt; outcome.trace.len(), ways.len());
+    for (record, expected) in outcome.trace.as_slice().iter().zip(ways) {
+        let put = record.step.put.as_slice();
+        assert_eq!(rt; put.len(), 1);
+        assert_eq!(rt; put[0].1.kind, PacketKind::Plain);
+        assert_eq!(rt; way(&put[0]), expected);
+    }
+    Ok(())
+}
+
 #[test]
 fn refuses_an_input_with_its_first_fault(rt: HostRuntime) -> Result<(), Fail> {
-    let no_star = Status::BadTopology(PlanFault::Star);
-    let bad_line = |line| Status::BadSchedule {
-        line,
-        kind: LineKind::Verb,
-    };
+    let bad_line = |line, kind| Status::BadSchedule { line, kind };
+    let bad_plan = |fault| Status::BadTopology(PlanFault::Topo(fault));
     let table = [
-        ("", no_star),
-        ("\nstar 2\n", no_star),
-        ("# star 2\n", no_star),
-        ("hosts = [\"h0\"]\n---\n", no_star),
-        ("star\nfly\n", no_star),
-        ("star 0\n", no_star),
-        ("star 65\n", no_star),
-        ("star 02\n", no_star),
-        ("star 2 0\n", no_star),
-        ("star 2 281474976710655\n", no_star),
-        ("star 2 1000 1\n", no_star),
-        ("star 2\ntick h0 1\n\n# c\r\ntick h2 1\nfly\n", bad_line(5)),
-        ("star 2 7\ntick h0 1\r", bad_line(2)),
-        ("star 2\ntick s0 1\n", bad_line(2)),
-        ("star 2\ntick h0 281474976710655\n", bad_line(2)),
-        ("star 2\nsend h0 reliable 1 h1=00\n", bad_line(2)),
-        ("star 2\nsend s0.up best 1 h1=00\n", bad_line(2)),
-        ("star 2\nsend h0 best 1\n", bad_line(2)),
-        ("star 2\nsend h0 best 01 h1=00\n", bad_line(2)),
-        ("star 2\nsend h0 best 1 h1=0A\n", bad_line(2)),
-        ("star 2\nsend h0 best 1 h1=0\n", bad_line(2)),
-        ("star 2\nsend h0 best 1 h1\n", bad_line(2)),
-        ("star 2\nsend h0 best 1 h1=00 h1=01\n", bad_line(2)),
-        ("star 2\ntake 5 0\n", bad_line(2)),
-        ("star 2\ntake 0 0 kept\n", bad_line(2)),
-        ("star 2\nlose 0 4294967296\n", bad_line(2)),
-        ("star 2\ndecide\n", bad_line(2)),
+        ("", Status::BadTopology(PlanFault::NoMark)),
+        ("hosts = [\"h0\"]\n", Status::BadTopology(PlanFault::NoMark)),
+        ("star 65\nfly\n", Status::BadTopology(PlanFault::Star)),
+        ("star 2 0\n", Status::BadTopology(PlanFault::Star)),
+        (
+            "hosts = [\"h0\", \"h1\"]\nswitches = []\ncables = [\"h0 h1\"]\n---\n",
+            bad_plan(TopoFault::Level { cable: 0 }),
+        ),
+        (
+            "hosts = [\"h0\", \"h1\"]\nswitches = [\"s0 1\", \"s1 1\"]\ncables = [\"h0 s0\", \"h1 s1\"]\n---\n",
+            bad_plan(TopoFault::Apart { a: 0, b: 1 }),
+        ),
+        (
+            "hosts = []\nswitches = []\ncables = []\n---\n",
+            bad_plan(TopoFault::NoHost),
+        ),
+        (
+            "hosts = [\"h0\"]\nswitches = [\"s0 1\"]\ncables = [\"h0 s0\", \"s0 h0\"]\n---\n",
+            bad_plan(TopoFault::DoubleCable { cable: 1 }),
+        ),
+        (
+            "hosts = [\"h0\"]\nswitches = [\"s0 1\", \"s1 2\"]\ncables = [\"h0 s0\"]\n---\n",
+            bad_plan(TopoFault::Idle { switch: 1 }),
+        ),
+        (
+            "hosts = [\"h0\"]\nswitches = []\n---\n",
+            Status::BadTopology(PlanFault::Shape {
+                key: KeyName::Cables,
+            }),
+        ),
+        (
+            "star 2\nsend h0 best 10 h1=\ntick h0 20\n# c\n\ntick h1 15\ntick h9 15\n",
+            bad_line(7, LineKind::Node),
+        ),
+        (
+            "hosts = [\"h0\"]\nswitches = [\"s0 1\"]\ncables = [\"h0 s0\"]\n---\n\
+             send h0 best 4611686018427387902 h0=\nsend h0 best 4611686018427387902 h0=\n",
+            bad_line(5, LineKind::Number),
+        ),
+        (
+            "star 2\nsend h0 reliable 1 h1=00\n",
+            bad_line(2, LineKind::Verb),
+        ),
+        ("star 2\ndecide\n", bad_line(2, LineKind::Verb)),
+        ("star 2\ntake 5 0\n", bad_line(2, LineKind::Link)),
+        (
+            "star 2\nsend h0 best 1 h1=00 h1=01\n",
+            bad_line(2, LineKind::Twice),
+        ),
     ];
     for (input, status) in table {
         let ran = run_on(rt.alloc(), input, &[], 1000, &[])?;
@@ -206,23 +275,53 @@ fn runs_with_ample_memory(rt: HostRuntime) -> Result<(), Fail> {
     Ok(())
 }
 
-#[test]
-fn refuses_an_input_that_is_too_long(rt: HostRuntime) -> Result<(), Fail> {
-    let bytes = vec![in rt.alloc(); b'\n'; 67_108_900]?;
-    let mut source = SteadySource::new(rt.alloc(), &bytes)?;
+// How the program ends on a first line and then so many lines of one kind.
+fn ends(alloc: Global, first: &str, line: &str, lines: u32) -> Result<Status, Fail> {
+    let mut input = String::from_str(alloc, first)?;
+    for _ in 0..lines {
+        input.push_str(line)?;
+    }
+    let mut source = SteadySource::new(alloc, input.as_bytes())?;
     let outcome = run(
-        rt.alloc(),
-        &words(rt.alloc(), &["replay"])?,
+        alloc,
+        &words(alloc, &["replay"])?,
         &mut source,
         &mut SteadySink::new(),
     );
-    assert_eq!(rt;
-        outcome.status,
-        Status::TooLong {
-            what: Size::Bytes,
-            count: 67_108_865
-        }
-    );
+    Ok(outcome.status)
+}
+
+#[test]
+fn refuses_what_is_too_long(rt: HostRuntime) -> Result<(), Fail> {
+    let too_long = |what, count| Status::TooLong { what, count };
+    let table = [
+        // A tick of the down half puts a beacon for each host.
+        ("star 64\n", "tick s0.down 0\n", 15_625, Status::Ok),
+        (
+            "star 64\n",
+            "tick s0.down 0\n",
+            15_626,
+            too_long(Size::Items, 1_000_064),
+        ),
+        // The lines are counted before any of them is read.
+        (
+            "star 1\n",
+            "decide\n",
+            200_001,
+            too_long(Size::Events, 200_001),
+        ),
+        (
+            "star 1\n",
+            "\n",
+            67_108_858,
+            too_long(Size::Bytes, 67_108_865),
+        ),
+        ("star 1\n", "\n", 67_108_857, Status::Ok),
+    ];
+    for (first, line, lines, status) in table {
+        let found = ends(rt.alloc(), first, line, lines)?;
+        assert_eq!(rt; found, status, "{line} {lines}");
+    }
     Ok(())
 }
 
@@ -237,9 +336,9 @@ fn tells_each_status_in_a_line(rt: HostRuntime) -> Result<(), Fail> {
         (Status::ReadFault, 3, "onepipe: read fault"),
         (Status::WriteFault, 4, "onepipe: write fault"),
         (
-            Status::BadTopology(PlanFault::Star),
+            Status::BadTopology(PlanFault::Topo(TopoFault::Apart { a: 0, b: 1 })),
             5,
-            "onepipe: topology: star",
+            "onepipe: topology: apart 0 1",
         ),
         (
             Status::BadSchedule {

@@ -54,12 +54,12 @@ pub fn run<S: Source, K: Sink>(
 
 fn write_out<K: Sink>(sink: &mut K, done: Replayed) -> Outcome
     ensures trace { result.trace ≡ done.trace }
-    ensures written { IsWritten result.status (K.written sink.old) (K.written sink.new) done.text.items }
+    ensures written { IsWritten result.status (K.written sink.old) (K.written sink.new) done.text }
     ensures failed { result.status ≡ Status.WriteFault → Rose (K.faults sink.old) (K.faults sink.new) }
     ensures steady { result.status ≡ Status.Ok → K.faults sink.new ≡ K.faults sink.old }
 {
     let Replayed { trace, text } = done;
-    match write_all(sink, &text) {
+    match write_all(sink, text.as_slice()) {
         Ok(()) => Outcome {
             status: Status::Ok,
             trace,

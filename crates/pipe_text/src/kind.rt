@@ -24,6 +24,11 @@ pub enum LineKind {
 }
 
 impl fmt::Display for LineKind {
+    ghost use Rattle.std.specs.Prelude.{Some};
+    ghost use Rattle.pipe_text.specs.Kind.{kind_word};
+
+    ghost output = { λ kind. Some (kind_word kind) };
+
     fn fmt<W: fmt::Write>(&self, f: &mut fmt::Formatter<W>) -> fmt::Result {
         f.write_str(match self {
             LineKind::Verb => "verb",

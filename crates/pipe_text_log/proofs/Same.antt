@@ -1,5 +1,5 @@
 -- The text of the logs depends on the links of a graph, and on nothing else but its number of hosts.
-use Rattle.std.proofs.Common.{◌≡◌, ℕ, ◌&&◌, not, Bool, true, false, if◌then◌else◌, List, [], ◌∷◌, ◌++◌, zero, suc, refl, ap, ◌∙◌}
+use Rattle.std.proofs.Common.{◌≡◌, ℕ, ◌&&◌, not, Bool, if◌then◌else◌, List, [], ◌∷◌, zero, suc, refl, ap, ◌∙◌}
 use Rattle.pipe_base.specs.Graph.{Graph}
 use Rattle.pipe_model.specs.declared.event.Event.{Event}
 use Rattle.pipe_model.specs.declared.event.Event.TheVariants.{Send, Tick, Take, Lose, ControlTake, ControlLose, Decide, Crash, Cut}
@@ -7,7 +7,7 @@ use Rattle.pipe_model.specs.declared.record.Record.{Record}
 use Rattle.pipe_model.specs.declared.record.Took.{Took}
 use Rattle.pipe_model.specs.Acting.{acts, is_idle, is_own, own}
 use Rattle.pipe_text_log.specs.Collected.{graph_with}
-use Rattle.pipe_text_log.specs.LogText.{host_text, hosts_text, service_text}
+use Rattle.pipe_text_log.specs.LogText.{hosts_text}
 
 acts_with : (graph : Graph) (n : ℕ) (event : Event) (took : Took) → acts (graph_with graph.links) n event took ≡ acts graph n event took
 acts_with graph n (Send host service now dests) took = refl

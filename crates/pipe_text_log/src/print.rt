@@ -6,10 +6,10 @@ ghost use Rattle.pipe_text_log.specs.Collected.{entries, graph_with, AreLogs, Ar
 ghost use Rattle.pipe_text_log.specs.LogText.{name_of, service_text, host_text, hosts_text, log_text};
 
 use crate::collect::{Log, collect};
-use pipe_base::{Entry, Link, List, NoMemory, Service};
+use pipe_base::{Entry, List, NoMemory, Service};
 use pipe_model::Trace;
 use pipe_text::{print_log_head, print_log_line};
-use pipe_topo::Names;
+use pipe_topo::{Names, Topology};
 use std::alloc::Global;
 
 /// A text, as its bytes.
@@ -68,17 +68,17 @@ fn print_hosts(
     Ok(())
 }
 
-/// The logs of all hosts over a trace of a network with so many hosts and these links, in one pass over the trace.
+/// The logs of all hosts over a trace of the network, in one pass over the trace.
 pub fn print_logs(
     alloc: Global,
     names: &Names,
-    hosts: u16,
-    links: &[Link],
+    topology: &Topology,
     trace: &Trace,
 ) -> Result<Text, NoMemory>
-    ensures { IfOk result (λ text. (graph : Graph) → graph.hosts ≡ hosts → graph.links ≡ links.now → text ≡ log_text names.now graph (reverse trace.now)) }
+    ensures { IfOk result (λ text. text ≡ log_text names.now topology.now (reverse trace.now)) }
 {
-    let all = collect(alloc, links, hosts, trace)?;
+    let hosts = topology.hosts();
+    let all = collect(alloc, topology.ends(), hosts, trace)?;
     let mut out = Vec::new(alloc);
     print_hosts(&mut out, names, hosts, &all)?;
     Ok(List::from_vec(out))

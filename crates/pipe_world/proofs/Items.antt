@@ -1,5 +1,5 @@
 -- A step puts few items.
-use Rattle.std.proofs.Common.{◌≡◌, ℕ, ◌+◌, ◌≤◌, ◌==◌, Bool, true, false, not, if◌then◌else◌, List, [], ◌∷◌, ◌++◌, length, map, filter, Option, None, Some, ap, arith, length-append}
+use Rattle.std.proofs.Common.{ℕ, ◌+◌, ◌≤◌, ◌==◌, Bool, true, false, not, if◌then◌else◌, List, [], ◌∷◌, length, map, filter, Option, None, Some, ap, arith, length-append}
 use Rattle.std.proofs.lemmas.List.{length-map}
 use Rattle.std.proofs.lemmas.List.FromFn.{length-map-range_with_len}
 use Rattle.std.proofs.lemmas.List.Sums.{count_by-le-length, length-filter}
@@ -7,11 +7,11 @@ use Rattle.pipe_base.specs.declared.name.HostId.{HostId}
 use Rattle.pipe_base.specs.declared.name.LinkId.{LinkId}
 use Rattle.pipe_base.specs.declared.name.Ts.{Ts}
 use Rattle.pipe_base.specs.declared.packet.Packet.{Packet}
-use Rattle.pipe_base.specs.Graph.{Graph, all_links, is_half, link_id, outs_of, tail_of}
+use Rattle.pipe_base.specs.Graph.{Graph, all_links, link_id, outs_of, tail_of}
 use Rattle.pipe_base.specs.ShortestRoute.{route}
 use Rattle.pipe_model.specs.declared.event.Event.{Event}
 use Rattle.pipe_model.specs.declared.event.Event.TheVariants.{Send, Tick, Take, Lose, ControlTake, ControlLose, Decide, Crash, Cut}
-use Rattle.pipe_model.specs.Duties.{Fields, beacon, beacons_of, forwarded, has_link, is_beacon, message_to, on_way, owed_by_send, owed_by_take, owed_of, routed}
+use Rattle.pipe_model.specs.Duties.{Fields, beacon, beacons_of, forwarded, has_link, message_to, on_way, owed_by_send, owed_by_take, owed_of, routed}
 use Rattle.pipe_model.specs.Event.{IsOfGraph}
 use Rattle.pipe_model.specs.Items.{items_in}
 use Rattle.pipe_world.specs.declared.node.Node.{Node}

@@ -18,7 +18,7 @@ use Rattle.pipe_model.specs.Clock.{next, send_outcome}
 use Rattle.pipe_model.specs.Event.{IsOfGraph, IsBuilt}
 use Rattle.pipe_model.specs.Items.{Overfills}
 use Rattle.pipe_model.specs.Outcome.{outcome_of, place_outcome, took_at, took_of}
-use Rattle.pipe_model.specs.Run.{IsNodeStep, IsStep, is_of_nobody, is_quiet}
+use Rattle.pipe_model.specs.Run.{IsHistory, IsNodeStep, IsStep, is_of_nobody, is_quiet}
 use Rattle.pipe_model.proofs.Own.{own_more, own_same}
 use Rattle.pipe_world.specs.declared.node.Node.{Node}
 use Rattle.pipe_world.specs.declared.work.Work.{Work}
@@ -153,9 +153,10 @@ added graph id before mid after lists left event w names built at there work tel
     }
 
 -- an event that would put too much
-pub overfills : (graph : Graph) (trace : List Record) (r : Record) (event : Event) (items : ℕ) → IsStep graph (reverse trace) r → r.event ≡ event → IsOver trace r items
-    → Overfills graph trace event items
-overfills graph trace r event items step is over = record { next = r; event_is = is; rules = step; items_are = over.items_are; many = over.many }
+pub overfills : (graph : Graph) (trace : List Record) (r : Record) (event : Event) (items : ℕ) → IsHistory graph (reverse trace) → IsStep graph (reverse trace) r → r.event ≡ event
+    → IsOver trace r items → Overfills graph trace event items
+overfills graph trace r event items past step is over =
+    record { past = past; within = over.within; next = r; event_is = is; rules = step; items_are = over.items_are; many = over.many }
 
 -- a record that changes no node
 pub passed_by : (graph : Graph) (nodes : List Node) (lists left : List (List Packet)) (past : List Record) (r : Record) → Keeps graph nodes lists past

@@ -11,8 +11,9 @@ pub record IsCounted (items : ℕ) (trace : List Record) : Type 0 where
   pub count_is : items ≡ items_of trace
   pub within : items ≤ most_items
 
--- with the record so much would have been put, and that is too much
+-- with the record so much would have been put, and that is too much; so far it was not
 pub record IsOver (trace : List Record) (r : Record) (items : ℕ) : Type 0 where
+  pub within : items_of trace ≤ most_items
   pub items_are : items ≡ items_of trace + items_in r
   pub many : most_items < items
 

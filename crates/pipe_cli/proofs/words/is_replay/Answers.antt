@@ -1,4 +1,4 @@
-use Rattle.std.proofs.Common.{◌≡◌, List, ℕ, String, Global, length, get_or, arith, subst}
+use Rattle.std.proofs.Common.{◌≡◌, List, String, Global, length, get_or, arith, subst}
 use Rattle.pipe_cli.proofs.FormLaws.{form_is}
 use Rattle.pipe_cli.proofs.words.is_replay.Goals as goal
 

@@ -1,4 +1,4 @@
-use Rattle.std.proofs.Common.{◌≡◌, ℕ, ◌+◌, ◌-◌, ◌≤◌, length, take, drop, arith, length-take, length-drop, ◌∙◌}
+use Rattle.std.proofs.Common.{ℕ, ◌+◌, ◌-◌, ◌≤◌, length, take, drop, arith, length-take, length-drop, ◌∙◌}
 use Rattle.pipe_cli.proofs.OutsideLaws.{appends_more, take-more}
 use Rattle.pipe_cli.proofs.write.write_all.Goals as goal
 

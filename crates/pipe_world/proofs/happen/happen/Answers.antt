@@ -78,7 +78,7 @@ returns-then-not-is_there-clause-full c =
     let r : Record = quiet_record c.args.event NoItem in
     let absent = sym c.is_there.ensures ∙ c.if-not-is_there.true in
     IfErr-weaker c.pass_by.result (FullBy c.args.history.now r) (λ (fault : StepFault). (items : ℕ) → fault ≡ Full items → Overfills graph c.args.history.now c.args.event items)
-    (λ fault full items is. overfills graph c.args.history.now r c.args.event items
+    (λ fault full items is. overfills graph c.args.history.now r c.args.event items c.requires.stands.rules
     (missing_step graph past c.args.queues.now c.args.event c.requires.stands.queues_are c.requires.event c.requires.built absent) refl (full items is))
     c.pass_by.ensures.full
 
@@ -97,7 +97,7 @@ returns-in-Some-clause-full c =
     (λ (fault : StepFault). (items : ℕ) → fault ≡ Full items → Overfills graph c.args.history.now c.args.event items)
     (λ fault full items is.
     let would : WouldOverfill graph id before c.args.queues.now c.args.history.now c.args.event items = full items is in
-    overfills graph c.args.history.now would.next c.args.event items (would.rules past stands c.requires.stands.queues_are) would.event_is would.over)
+    overfills graph c.args.history.now would.next c.args.event items c.requires.stands.rules (would.rules past stands c.requires.stands.queues_are) would.event_is would.over)
     c.act.ensures.full
 
 pub returns-in-None-clause-full : goal.returns-in-None-clause-full
@@ -107,6 +107,6 @@ returns-in-None-clause-full c =
     let r : Record = quiet_record c.args.event Ok in
     let there = sym c.is_there.ensures ∙ c.if-not-is_there.false in
     IfErr-weaker c.pass_by-in-None.result (FullBy c.args.history.now r) (λ (fault : StepFault). (items : ℕ) → fault ≡ Full items → Overfills graph c.args.history.now c.args.event items)
-    (λ fault full items is. overfills graph c.args.history.now r c.args.event items
+    (λ fault full items is. overfills graph c.args.history.now r c.args.event items c.requires.stands.rules
     (loss_step graph past c.args.queues.now c.args.event c.requires.stands.queues_are c.requires.event c.requires.built c.in-None.ensures.acts there) refl (full items is))
     c.pass_by-in-None.ensures.full

@@ -1,0 +1,17 @@
+-- Events that run until one puts too much.
+use Rattle.std.specs.Prelude.{◌≡◌, ℕ, List, ◌∷◌, ◌++◌}
+use Rattle.pipe_base.specs.Graph.{Graph}
+use Rattle.pipe_model.specs.declared.event.Event.{Event}
+use Rattle.pipe_model.specs.declared.record.Record.{Record}
+use Rattle.pipe_model.specs.Items.{Overfills}
+use Rattle.pipe_model.specs.Run.{IsRun}
+
+-- The first of these events run, and the next one would put too much: so many items.
+pub record IsStopped (graph : Graph) (events : List Event) (items : ℕ) : Type 0 where
+  pub before : List Event
+  pub event : Event
+  pub after : List Event
+  pub events_are : events ≡ before ++ event ∷ after
+  pub trace : List Record
+  pub run : IsRun graph before trace
+  pub overfills : Overfills graph trace event items
