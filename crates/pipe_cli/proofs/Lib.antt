@@ -1,4 +1,5 @@
 pub mod AnswerLaws
 pub mod FormLaws
+pub mod OneStatus
 pub mod OutsideLaws
 pub mod RunLaws

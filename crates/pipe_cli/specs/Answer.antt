@@ -21,8 +21,7 @@ pub record CanRun (bytes : List ℕ) : Type 0 where
   pub trace : List Record
   pub run : IsOrderedRun (graph_of content.plan) content.events trace
 
--- The status that an input asks for, where nothing fails and there is memory: no two statuses are asked for by the same input,
--- since the rules leave each record one form.
+-- The status that an input asks for, where nothing fails and there is memory. It asks for one alone, by the law of `laws.rt`.
 abbrev pub AsksFor : List ℕ → Status → Type 0
 AsksFor bytes Ok = CanRun bytes
 AsksFor bytes Usage = ⊥

@@ -2,6 +2,7 @@
 //! writes every host's log.
 #![tactic(auto)]
 
+mod laws;
 mod read;
 mod replay;
 mod status;
@@ -9,6 +10,7 @@ mod top;
 mod words;
 mod write;
 
+pub use laws::inputs_ask_for_one_status;
 pub use status::{Status, exit_number};
 pub use top::{Outcome, run};
 pub use words::Words;
