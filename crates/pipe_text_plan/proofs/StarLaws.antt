@@ -86,7 +86,7 @@ pub hosts_size : (names : List (List ℕ)) (n : ℕ) → names ≡ map host_name
 hosts_size names n is = ap length is ∙ length-map-range_with_len host_name 0 n
 
 -- a plan without a fault is refused for none
-pub none_refused : (result : Result PlanInput PlanError) (names : List (List ℕ)) (plan : Network) → fault_of plan ≡ None
+none_refused : (result : Result PlanInput PlanError) (names : List (List ℕ)) (plan : Network) → fault_of plan ≡ None
     → IfErr result (λ error. (fault : PlanFault) → error ≡ Plan fault → built names plan ≡ Err fault)
     → IfErr result (λ error. (fault : PlanFault) → error ≡ Plan fault → ⊥)
 none_refused (Ok input) names plan none told = tt
