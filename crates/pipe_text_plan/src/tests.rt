@@ -34,7 +34,7 @@ fn answer(rt: &impl Abort, alloc: Global, input: &[u8]) -> Result<String, AllocE
 fn have_answers(rt: &impl Abort, alloc: Global, cases: &[(&str, &str)]) -> Result<(), AllocError> {
     for (input, words) in cases {
         let found = answer(rt, alloc, input.as_bytes())?;
-        assert_eq!(rt; found.as_str(), *words, "{input}");
+        assert!(rt; found.as_str() == *words, "{input}: {found}");
     }
     Ok(())
 }
@@ -161,7 +161,7 @@ fn first_faults(rt: HostRuntime) -> Result<(), Fail> {
 #[test]
 fn text_that_is_not_utf8(rt: HostRuntime) -> Result<(), Fail> {
     let found = answer(&rt, rt.alloc(), b"\xff\n---\n")?;
-    assert_eq!(rt; found.as_str(), "not toml");
+    assert!(rt; found.as_str() == "not toml");
     Ok(())
 }
 
@@ -188,7 +188,7 @@ fn too_many(rt: HostRuntime) -> Result<(), Fail> {
     ] {
         let input = crowded(rt.alloc(), hosts, switches)?;
         let found = answer(&rt, rt.alloc(), input.as_bytes())?;
-        assert_eq!(rt; found.as_str(), words);
+        assert!(rt; found.as_str() == words, "{found}");
     }
     Ok(())
 }
@@ -217,11 +217,12 @@ fn a_star_is_planned(rt: HostRuntime) -> Result<(), Fail> {
     Ok(())
 }
 
+static TOML: &[u8] =
+    b"hosts = [\"a\", \"b\"]\nswitches = [\"low 1\", \"high-2 15\"]\ncables = [\"a low\", \"low b\", \"high-2 low\"]\n---\ntick a 5\n";
+
 #[test]
 fn a_toml_is_planned(rt: HostRuntime) -> Result<(), Fail> {
-    let text =
-        b"hosts = [\"a\", \"b\"]\nswitches = [\"low 1\", \"high-2 15\"]\ncables = [\"a low\", \"low b\", \"high-2 low\"]\n---\ntick a 5\n";
-    let input = read(rt.alloc(), text)?;
+    let input = read(rt.alloc(), TOML)?;
     assert!(rt; has_plan(&input, 2, &[1, 15], 1000));
     assert!(rt; has_sizes(&input, 4, 6, 8));
     assert!(rt; is_named(&input.names, "high-2", 3));
@@ -270,6 +271,6 @@ static NAMES: [(&str, bool); 11] = [
 #[test]
 fn names(rt: HostRuntime) {
     for (word, good) in &NAMES {
-        assert_eq!(rt; is_name(word), *good, "{word}");
+        assert!(rt; is_name(word) == *good, "{word}");
     }
 }

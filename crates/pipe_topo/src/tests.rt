@@ -10,10 +10,12 @@ use std::process::Abort;
 use std::test::Fail;
 
 fn plan_of(alloc: Global, hosts: u16, levels: &[u8], cables: &[Cable]) -> Result<Plan, NoMemory> {
+    let levels = List::from_vec(Vec::from_slice(alloc, levels)?);
+    let cables = List::from_vec(Vec::from_slice(alloc, cables)?);
     Ok(Plan {
         hosts,
-        levels: List::from_vec(Vec::from_slice(alloc, levels)?),
-        cables: List::from_vec(Vec::from_slice(alloc, cables)?),
+        levels,
+        cables,
         patience: Ts(100),
     })
 }
@@ -35,8 +37,10 @@ static TWO_WAYS: [Cable; 6] = [
     (Switch(1), Switch(3)),
 ];
 
+static TWO_WAYS_LEVELS: [u8; 4] = [1, 1, 2, 2];
+
 fn two_ways(rt: &impl Abort, alloc: Global) -> Result<Topology, TopoFault> {
-    let plan = plan_of(alloc, 2, &[1, 1, 2, 2], &TWO_WAYS)?;
+    let plan = plan_of(alloc, 2, &TWO_WAYS_LEVELS, &TWO_WAYS)?;
     build(rt, alloc, &plan)
 }
 
@@ -54,7 +58,7 @@ fn has_sizes(topology: &Topology, sizes: Sizes) -> bool {
 fn networks_have_the_sizes_of_their_plan(rt: HostRuntime) -> Result<(), Fail> {
     let topology = two_ways(&rt, rt.alloc())?.try_clone()?;
     assert!(rt; has_sizes(&topology, (2, 4, 10, 16)));
-    assert_eq!(rt; topology.patience(), Ts(100));
+    assert!(rt; topology.patience() == Ts(100));
     Ok(())
 }
 
@@ -183,9 +187,8 @@ fn ways_without(
 fn hosts_reach_by_links_that_are_left(rt: HostRuntime) -> Result<(), Fail> {
     let topology = two_ways(&rt, rt.alloc())?;
     for (gone, ways) in [(1, (true, true)), (4, (true, false)), (0, (false, false))] {
-        assert_eq!(rt;
-            ways_without(&rt, rt.alloc(), &topology, gone)?,
-            ways,
+        assert!(rt;
+            ways_without(&rt, rt.alloc(), &topology, gone)? == ways,
             "without {gone}"
         );
     }
@@ -233,10 +236,8 @@ fn too_many_are_told(rt: HostRuntime) -> Result<(), Fail> {
         (1, 65, What::Switches, 65),
         (1, 1, What::Cables, 513),
     ] {
-        assert_eq!(rt;
-            crowded(&rt, rt.alloc(), hosts, switches, 513)?,
-            Some(TopoFault::TooMany { what, count })
-        );
+        let fault = TopoFault::TooMany { what, count };
+        assert!(rt; crowded(&rt, rt.alloc(), hosts, switches, 513)? == Some(fault));
     }
     Ok(())
 }
@@ -300,9 +301,8 @@ static FAULTS: [(u16, &[u8], &[Cable], TopoFault); 10] = [
 #[test]
 fn the_first_fault_is_told(rt: HostRuntime) -> Result<(), Fail> {
     for (case, (hosts, levels, cables, fault)) in FAULTS.iter().enumerate() {
-        assert_eq!(rt;
-            fault_of(&rt, rt.alloc(), *hosts, levels, cables)?,
-            Some(*fault),
+        assert!(rt;
+            fault_of(&rt, rt.alloc(), *hosts, levels, cables)? == Some(*fault),
             "case {case}"
         );
     }
@@ -363,15 +363,20 @@ fn add(rt: &impl Abort, names: &mut Names, name: &str) -> Result<bool, NoMemory>
     names.add(name)
 }
 
-fn add_three(rt: &impl Abort, mut names: Names) -> Result<Names, NoMemory> {
-    for (name, new) in [("h1", true), ("h0", true), ("h1", false), ("s0", true)] {
-        assert!(rt; add(rt, &mut names, name)? == new, "{name}");
+// Each name, and whether it is new.
+static ADDED: [(&str, bool); 4] = [("h1", true), ("h0", true), ("h1", false), ("s0", true)];
+
+fn add_all(rt: &impl Abort, names: &mut Names) -> Result<(), NoMemory> {
+    for (name, new) in &ADDED {
+        assert!(rt; add(rt, names, name)? == *new, "{name}");
     }
-    Ok(names)
+    Ok(())
 }
 
 fn three_names(rt: &impl Abort, alloc: Global) -> Result<Names, NoMemory> {
-    add_three(rt, Names::new(alloc))?.try_clone()
+    let mut names = Names::new(alloc);
+    add_all(rt, &mut names)?;
+    names.try_clone()
 }
 
 fn is_named(names: &Names, number: u16, name: &str) -> bool {
@@ -389,7 +394,7 @@ fn names_keep_their_numbers(rt: HostRuntime) -> Result<(), Fail> {
         assert!(rt; is_named(&names, number, name), "{name}");
     }
     assert!(rt; is_absent(&names, "h2"));
-    assert_eq!(rt; names.len(), 3);
+    assert!(rt; names.len() == 3);
     Ok(())
 }
 
@@ -398,14 +403,23 @@ fn no_names(rt: HostRuntime) {
     assert!(rt; Names::new(rt.alloc()).is_empty());
 }
 
-#[test]
-fn sets_of_hosts(rt: HostRuntime) {
+fn has(hosts: HostSet, host: u16) -> bool {
+    host < 64 && hosts.has(HostId(host))
+}
+
+// The hosts 1 to 61 and 63.
+fn some_hosts() -> HostSet {
     let mut hosts = HostSet::first(62);
     hosts.insert(HostId(63));
     hosts.remove(HostId(0));
+    hosts
+}
+
+#[test]
+fn sets_of_hosts(rt: HostRuntime) {
     for (host, there) in [(0, false), (1, true), (61, true), (62, false), (63, true)] {
-        assert_eq!(rt; hosts.has(HostId(host)), there, "{host}");
+        assert!(rt; has(some_hosts(), host) == there, "{host}");
     }
-    assert!(rt; HostSet::first(64).has(HostId(63)));
-    assert!(rt; !HostSet::none().has(HostId(63)));
+    assert!(rt; has(HostSet::first(64), 63));
+    assert!(rt; !has(HostSet::none(), 63));
 }
