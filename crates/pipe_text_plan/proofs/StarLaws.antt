@@ -1,15 +1,24 @@
 -- Lemmas on stars.
-use Rattle.std.proofs.Common.{◌≡◌, ℕ, ◌+◌, ◌<◌, ◌≤◌, ◌^◌, Bool, true, false, not, if◌then◌else◌, List, [], ◌∷◌, ◌++◌, length, drop, map, None, refl, ap, sym, subst, ◌∙◌, arith, codes}
+use Rattle.std.proofs.Common.{◌≡◌, ℕ, ◌+◌, ◌<◌, ◌≤◌, ◌^◌, Bool, true, false, not, if◌then◌else◌, List, [], ◌∷◌, ◌++◌, length, drop, map, None, Result, Ok, Err, refl, ap, sym, ◌∙◌, arith, codes}
 use Rattle.std.specs.List.{list_any, range_with_len}
+use Rattle.std.specs.Result.{IfErr}
 use Rattle.std.specs.Str.{bytes_eq}
 use Rattle.std.proofs.lemmas.Fmt.{decimal_injective}
 use Rattle.std.proofs.lemmas.List.FromFn.{map-range_with_len_more}
 use Rattle.std.proofs.lemmas.List.FromFn.{get_or-map-range_with_len, length-map-range_with_len}
 use Rattle.std.proofs.lemmas.List.Folds.{list_any_none}
 use Rattle.std.proofs.lemmas.Slice.Eq.{bytes_eq-Decides}
-use Rattle.pipe_topo.specs.declared.plan.CableEnd.{CableEnd}
-use Rattle.pipe_topo.specs.Plan.{IsEnd, HasEnds}
-use Rattle.pipe_topo.specs.Star.{host_cable}
+use Rattle.pipe_base.specs.declared.name.Ts.{Ts}
+use Rattle.pipe_topo.specs.declared.plan.Plan.{Plan as Network}
+use Rattle.pipe_topo.specs.Fault.{fault_of}
+use Rattle.pipe_topo.specs.Star.{star_plan}
+use Rattle.pipe_topo.proofs.StarLaws.{star_no_fault}
+use Rattle.pipe_text_plan.specs.declared.fault.PlanError.{PlanError}
+use Rattle.pipe_text_plan.specs.declared.fault.PlanError.TheVariants.{Plan}
+use Rattle.pipe_text_plan.specs.declared.fault.PlanFault.{PlanFault}
+use Rattle.pipe_text_plan.specs.declared.fault.PlanFault.TheVariants.{Star}
+use Rattle.pipe_text_plan.specs.declared.read.PlanInput.{PlanInput}
+use Rattle.pipe_text_plan.specs.Described.{built, built_unless}
 use Rattle.pipe_text_plan.specs.Star.{star_of, host_name}
 
 -- too few words, or too many
@@ -76,9 +85,19 @@ switch_last names longer name n new so_far is added more =
 pub hosts_size : (names : List (List ℕ)) (n : ℕ) → names ≡ map host_name (range_with_len 0 n) → length names ≡ n
 hosts_size names n is = ap length is ∙ length-map-range_with_len host_name 0 n
 
--- each cable of a star has a host and the switch
-pub star_ends : (n : ℕ) → HasEnds n 1 (map host_cable (range_with_len 0 n))
-star_ends n = λ k d below.
-    let within : k < n = omega (arith, below, length-map-range_with_len host_cable 0 n) in
-    let is = get_or-map-range_with_len host_cable 0 n k k d within (omega arith) in
-    subst (λ (cable : CableEnd × CableEnd). IsEnd n 1 cable.0 × IsEnd n 1 cable.1) (sym is) (within, omega arith)
+-- a plan without a fault is refused for none
+none_refused : (result : Result PlanInput PlanError) (names : List (List ℕ)) (plan : Network) → fault_of plan ≡ None
+    → IfErr result (λ error. (fault : PlanFault) → error ≡ Plan fault → built names plan ≡ Err fault)
+    → IfErr result (λ error. (fault : PlanFault) → error ≡ Plan fault → ⊥)
+none_refused (Ok input) names plan none told = tt
+none_refused (Err error) names plan none told = λ fault is.
+    let fine : built names plan ≡ Ok (record { names = names; plan = plan }) = ap (built_unless names plan) none in
+    let refused : built names plan ≡ Err fault = told fault is in
+    cc
+
+pub star_refused : (result : Result PlanInput PlanError) (names : List (List ℕ)) (hosts : ℕ) (patience : Ts) → 1 ≤ hosts → hosts ≤ 64
+    → IfErr result (λ error. (fault : PlanFault) → error ≡ Plan fault → built names (star_plan hosts patience) ≡ Err fault)
+    → IfErr result (λ error. (fault : PlanFault) → error ≡ Plan fault → fault ≡ Star)
+star_refused (Ok input) names hosts patience some few told = tt
+star_refused (Err error) names hosts patience some few told = λ fault is.
+    absurd (none_refused (Err error) names (star_plan hosts patience) (star_no_fault hosts patience some few) told fault is)

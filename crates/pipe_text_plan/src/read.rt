@@ -1,5 +1,5 @@
 // A topology part as names, plan and topology, or its first fault.
-ghost use Rattle.std.specs.Prelude.{◌≡◌, ◌≤◌, ◌<◌, ◌^◌, ◌+◌, length, map, IfOk, IfErr, IfSome, Ok, Err};
+ghost use Rattle.std.specs.Prelude.{◌≡◌, ◌≤◌, ◌<◌, ◌^◌, ◌+◌, true, length, map, IfOk, IfErr, IfSome, Ok, Err};
 ghost use Rattle.toml.specs.View.{table_view};
 ghost use Rattle.pipe_text.specs.Words.{words_of};
 ghost use Rattle.pipe_topo.specs.Plan.{HasEnds};
@@ -38,10 +38,11 @@ pub struct PlanInput {
     pub topology: Topology,
 }
 
-/// Reads the topology part of an input. Its first fault is refused.
+/// Reads the topology part of an input. Its first fault is refused: the line of a star has none but its form.
 pub fn read_plan(alloc: Global, parts: &Parts<'_>) -> Result<PlanInput, PlanError>
     ensures ok { IfOk result (IsInput (described_by (division_view parts.now))) }
     ensures fault { IfErr result (λ error. (fault : Fault) → error ≡ PlanError.Plan fault → described_by (division_view parts.now) ≡ Err fault) }
+    ensures star { parts.now.star ≡ true → IfErr result (λ error. (fault : Fault) → error ≡ PlanError.Plan fault → fault ≡ PlanFault.Star) }
 {
     if parts.star {
         read_star(alloc, parts.topology)
@@ -53,6 +54,7 @@ pub fn read_plan(alloc: Global, parts: &Parts<'_>) -> Result<PlanInput, PlanErro
 fn read_star(alloc: Global, line: &[u8]) -> Result<PlanInput, PlanError>
     ensures ok { IfOk result (IsInput (star_described (star_of (words_of line.now)))) }
     ensures fault { IfErr result (λ error. (fault : Fault) → error ≡ PlanError.Plan fault → star_described (star_of (words_of line.now)) ≡ Err fault) }
+    ensures star { IfErr result (λ error. (fault : Fault) → error ≡ PlanError.Plan fault → fault ≡ PlanFault.Star) }
 {
     let words = words_of(alloc, line)?;
     let Some((hosts, patience)) = star_of(&words) else {

@@ -13,7 +13,7 @@ const PATIENCE: u64 = 1000;
 // The number of hosts and the patience.
 pub fn star_of(words: &[&[u8]]) -> Option<(u16, u64)>
     ensures value { result ≡ star_of (map (λ word. word.now) words.now) }
-    ensures few { IfSome result (λ star. star.0 ≤ 64) }
+    ensures few { IfSome result (λ star. (1 ≤ star.0) × (star.0 ≤ 64)) }
 {
     match words {
         [_, hosts] => star_with(read_number(hosts, 64), Some(PATIENCE)),
@@ -28,7 +28,7 @@ pub fn star_of(words: &[&[u8]]) -> Option<(u16, u64)>
 fn star_with(hosts: Option<u64>, patience: Option<u64>) -> Option<(u16, u64)>
     requires { IfSome hosts (λ n. n ≤ 64) }
     ensures value { result ≡ star_with hosts patience }
-    ensures few { IfSome result (λ star. star.0 ≤ 64) }
+    ensures few { IfSome result (λ star. (1 ≤ star.0) × (star.0 ≤ 64)) }
 {
     let (Some(hosts), Some(patience)) = (hosts, patience) else {
         return None;

@@ -1,5 +1,5 @@
 -- What the first fault says: the first pair that is apart; and a plan without a fault joins all hosts.
-use Rattle.std.proofs.Common.{◌≡◌, ℕ, ◌<◌, ◌≤◌, ◌&&◌, not, Bool, true, false, List, length, replicate, Option, None, Some, is_some, option_map, inl, inr, refl, sym, ap, ◌∙◌, true≢false, arith}
+use Rattle.std.proofs.Common.{◌≡◌, ℕ, ◌<◌, ◌≤◌, nat_le, ◌&&◌, not, Bool, true, false, List, length, replicate, Option, None, Some, is_some, option_map, inl, inr, refl, sym, ap, ◌∙◌, true≢false, arith}
 use Rattle.std.proofs.lemmas.Bool.{le-leb}
 use Rattle.std.proofs.lemmas.Bool.Decides.{leb_tells}
 use Rattle.std.proofs.lemmas.List.{get_or-replicate}
@@ -15,7 +15,7 @@ use Rattle.pipe_topo.specs.Sets.{has}
 use Rattle.pipe_topo.specs.declared.fault.TopoFault.{TopoFault}
 use Rattle.pipe_topo.specs.declared.fault.TopoFault.TheVariants.{Apart}
 use Rattle.pipe_topo.specs.declared.plan.Plan.{Plan}
-use Rattle.pipe_topo.proofs.FirstLaws.{first_at, first_none, first_passes}
+use Rattle.pipe_topo.proofs.FirstLaws.{none_first, first_at, first_none, first_passes}
 use Rattle.pipe_topo.proofs.LinkLaws.{plan_is_graph}
 use Rattle.pipe_topo.proofs.MirrorLaws.{plan_mirrored}
 
@@ -69,6 +69,20 @@ no_apart_joins plan is none a b a_lt b_lt =
           reach_turns (graph_of plan) (plan_is_graph plan is) (plan_mirrored plan is) b a b_lt a_lt
           (not_apart (graph_of plan) b a (none_apart (graph_of plan) none b a b_lt a_lt) (omega (arith, gt.1)))
     ]
+
+-- a graph that joins all hosts has no fault of this kind
+pub joined_none_apart : (g : Graph) → JoinsAllHosts g → apart_fault g ≡ None
+joined_none_apart g joins =
+    ap (apart_at g)
+    (none_first (λ (a : ℕ). is_some (apart_from g a)) g.hosts
+    (λ a a_lt. ap is_some (none_first (is_apart g a) g.hosts (λ b b_lt. together a b (joins a b a_lt b_lt)))))
+  where
+    and_false : (t : Bool) → (t && false) ≡ false
+    and_false true = refl
+    and_false false = refl
+
+    together : (a b : ℕ) → reaches g every_link a b ≡ true → is_apart g a b ≡ false
+    together a b is = ap (λ (t : Bool). nat_le a b && not t) is ∙ and_false (nat_le a b)
 
 no_apart_fault : (shape apart : Option TopoFault) → first_of shape apart ≡ None → apart ≡ None
 no_apart_fault None apart h = h

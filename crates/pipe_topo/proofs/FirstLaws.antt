@@ -12,6 +12,11 @@ first_more p k none isnt =
     let e : k + 1 ≡ suc k = omega arith in
     rw e (rw (none, isnt) refl)
 
+-- no number below the bound passes: there is no first
+pub none_first : (p : ℕ → Bool) (n : ℕ) → ((k : ℕ) → k < n → p k ≡ false) → first_below p n ≡ None
+none_first p zero none = refl
+none_first p (suc n) none = rw (none_first p n (λ k lt. none k (omega arith)), none n (omega arith)) refl
+
 -- none before k, k passes: k is the first of all below n
 pub first_at : (p : ℕ → Bool) (n k : ℕ) → k < n → first_below p k ≡ None → p k ≡ true → first_below p n ≡ Some k
 first_at p zero k lt none is = absurd (omega arith)

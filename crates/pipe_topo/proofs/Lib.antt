@@ -5,5 +5,6 @@ pub mod LinkLaws
 pub mod MirrorLaws
 pub mod NameLaws
 pub mod ReachLaws
+pub mod StarLaws
 pub mod TableLaws
 pub mod WalkLaws

@@ -1,5 +1,5 @@
 -- Lemmas on the links of a plan: they are few, and join nodes of its graph.
-use Rattle.std.proofs.Common.{◌≡◌, ℕ, ◌+◌, ◌*◌, ◌<◌, Bool, true, false, List, [], ◌∷◌, ◌++◌, length, map, All, refl, sym, ap, ◌∙◌, arith, append_assoc, length-append}
+use Rattle.std.proofs.Common.{◌≡◌, ℕ, zero, suc, ◌+◌, ◌*◌, ◌<◌, Bool, true, false, List, [], ◌∷◌, ◌++◌, length, map, get_or, All, refl, sym, ap, ◌∙◌, arith, append_assoc, length-append}
 use Rattle.std.specs.List.{flat_map, range_with_len}
 use Rattle.std.proofs.lemmas.List.Elements.{All-nil, All-cons, All-tail, All-head, All-append, All-map, All-from_get_or}
 use Rattle.std.proofs.lemmas.List.FromFn.{map-range_with_len_more, get_or-range_with_len, length-range_with_len, length-map-range_with_len}
@@ -77,10 +77,22 @@ links_between_nodes plan is =
     (cables_between plan.hosts (length plan.levels) plan.levels plan.cables is.ends)
     (loops_between plan.hosts (length plan.levels))
 
-cable_link_count : (hosts : ℕ) (levels : List ℕ) (cables : List (CableEnd × CableEnd)) → length (flat_map (cable_links hosts levels) cables) ≡ 2 * length cables
+pub cable_link_count : (hosts : ℕ) (levels : List ℕ) (cables : List (CableEnd × CableEnd)) → length (flat_map (cable_links hosts levels) cables) ≡ 2 * length cables
 cable_link_count hosts levels [] = refl
 cable_link_count hosts levels (c ∷ cs) =
     omega (arith, length-append (cable_links hosts levels c) (flat_map (cable_links hosts levels) cs), cable_link_count hosts levels cs)
+
+-- the two links of the k-th cable have the numbers 2 k and 2 k + 1
+pub links_at : (hosts : ℕ) (levels : List ℕ) (cables : List (CableEnd × CableEnd)) (loops : List Link) (k : ℕ) (other : CableEnd × CableEnd) → k < length cables
+    → (get_or (flat_map (cable_links hosts levels) cables ++ loops) (2 * k) no_link ≡ get_or (cable_links hosts levels (get_or cables k other)) 0 no_link)
+    × (get_or (flat_map (cable_links hosts levels) cables ++ loops) (2 * k + 1) no_link ≡ get_or (cable_links hosts levels (get_or cables k other)) 1 no_link)
+links_at hosts levels [] loops k other lt = absurd (omega arith)
+links_at hosts levels (c ∷ cs) loops zero other lt = (refl, refl)
+links_at hosts levels (c ∷ cs) loops (suc k) other lt =
+    let rest = links_at hosts levels cs loops k other (omega arith) in
+    let up : 2 * suc k ≡ suc (suc (2 * k)) = omega arith in
+    let down : 2 * suc k + 1 ≡ suc (suc (2 * k + 1)) = omega arith in
+    (rw up rest.0, rw down rest.1)
 
 -- two links a cable and one a switch
 pub link_count : (hosts : ℕ) (levels : List ℕ) (cables : List (CableEnd × CableEnd)) → length (plan_links hosts levels cables) ≡ 2 * length cables + length levels

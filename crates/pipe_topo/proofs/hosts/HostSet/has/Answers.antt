@@ -1,7 +1,6 @@
-use Rattle.std.proofs.Common.{◌≡◌, ℕ, ◌*◌, ◌%◌, ◌^◌, ◌==◌, Bool, false, not, List, bit_and, ap, sym, ◌∙◌}
+use Rattle.std.proofs.Common.{ℕ, ◌==◌, Bool, false, not, List, bit_and, ap, sym, ◌∙◌}
 use Rattle.std.proofs.lemmas.Nat.{one_shl}
 use Rattle.std.proofs.lemmas.Nat.Bits.{and_pow}
-use Rattle.std.specs.Int.{bit_at}
 use Rattle.pipe_topo.specs.Sets.{has}
 use Rattle.pipe_topo.proofs.DigitLaws.{get_or-digits, bit_is}
 use Rattle.pipe_topo.proofs.hosts.HostSet.has.Goals as goal

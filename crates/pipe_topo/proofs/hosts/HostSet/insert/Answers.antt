@@ -1,4 +1,4 @@
-use Rattle.std.proofs.Common.{◌≡◌, ℕ, ◌*◌, ◌%◌, ◌^◌, ◌<◌, Bool, true, List, set, ap, ◌∙◌, arith}
+use Rattle.std.proofs.Common.{◌*◌, ◌%◌, ◌^◌, Bool, true, List, set, ap, ◌∙◌, arith}
 use Rattle.std.proofs.lemmas.Nat.{or_lt}
 use Rattle.pipe_topo.proofs.DigitLaws.{digits_set}
 use Rattle.pipe_topo.proofs.hosts.HostSet.insert.Goals as goal

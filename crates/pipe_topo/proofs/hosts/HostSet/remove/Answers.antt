@@ -1,4 +1,4 @@
-use Rattle.std.proofs.Common.{ℕ, Bool, false, List, set, ap, ◌∙◌}
+use Rattle.std.proofs.Common.{Bool, false, List, set, ap, ◌∙◌}
 use Rattle.pipe_topo.proofs.DigitLaws.{digits_clear}
 use Rattle.pipe_topo.proofs.hosts.HostSet.remove.Goals as goal
 
