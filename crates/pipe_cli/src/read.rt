@@ -1,5 +1,5 @@
 // The input, read to its end.
-ghost use Rattle.std.specs.Prelude.{◌≡◌, ◌≤◌, IfOk, OnOk, Result};
+ghost use Rattle.std.specs.Prelude.{◌≡◌, IfOk, OnOk, Result};
 ghost use Rattle.pipe_base.specs.Outside.{Rose};
 ghost use Rattle.pipe_cli.specs.Read.{WasRead};
 

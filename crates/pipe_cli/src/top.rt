@@ -1,5 +1,5 @@
 // The top call.
-ghost use Rattle.std.specs.Prelude.{◌≡◌, ◌↔◌, ◌⊎◌, ℕ, [], true, false, map, string_bytes};
+ghost use Rattle.std.specs.Prelude.{◌≡◌, ◌↔◌, [], true, false, map, string_bytes};
 ghost use Rattle.pipe_base.specs.Outside.{Rose};
 ghost use Rattle.pipe_cli.specs.Answer.{IsOfInput, IsCaused, IsWritten, DoesReplay, IsComplete};
 ghost use Rattle.pipe_cli.specs.Form.{IsReplayForm};

@@ -2,7 +2,7 @@
 ghost use Rattle.std.specs.Prelude.{◌≡◌, ◌++◌, ◌<◌, ℕ, List, length, reverse, IfOk, OnOk};
 ghost use Rattle.pipe_base.specs.Graph.{Graph};
 ghost use Rattle.pipe_model.specs.declared.record.Record.{Record};
-ghost use Rattle.pipe_text_log.specs.Collected.{entries, graph_with, AreLogs, AreLogsOf};
+ghost use Rattle.pipe_text_log.specs.Collected.{entries, AreLogs, AreLogsOf};
 ghost use Rattle.pipe_text_log.specs.LogText.{name_of, service_text, host_text, hosts_text, log_text};
 
 use crate::collect::{Log, collect};

@@ -1,5 +1,5 @@
 // One event of the world.
-ghost use Rattle.std.specs.Prelude.{◌≡◌, ◌<◌, ◌≤◌, ◌∷◌, ◌++◌, ℕ, List, [], IfErr, IfOk, OnOk, OnErr, MatchOption, IfSome, length, true};
+ghost use Rattle.std.specs.Prelude.{◌≡◌, ◌<◌, ◌≤◌, ◌∷◌, ◌++◌, ℕ, [], IfErr, IfOk, OnOk, OnErr, MatchOption, IfSome, length, true};
 ghost use Rattle.pipe_base.specs.Graph.{Graph, IsGraph};
 ghost use Rattle.pipe_model.specs.declared.record.Record.{Record};
 ghost use Rattle.pipe_model.specs.Event.{IsOfGraph, IsBuilt};

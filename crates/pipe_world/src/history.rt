@@ -1,5 +1,5 @@
 // All that happened, and how much was put in it.
-ghost use Rattle.std.specs.Prelude.{◌≡◌, ◌≤◌, ◌+◌, ◌++◌, ◌∷◌, ℕ, [], IfErr, OnOk};
+ghost use Rattle.std.specs.Prelude.{◌≡◌, ◌≤◌, ◌+◌, ◌++◌, ◌∷◌, [], IfErr, OnOk};
 ghost use Rattle.pipe_model.specs.Items.{items_in, items_of, most_items};
 ghost use Rattle.pipe_world.specs.History.{IsRefused};
 

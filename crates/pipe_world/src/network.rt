@@ -1,7 +1,6 @@
 // A network with the routes of all its nodes.
-ghost use Rattle.std.specs.Prelude.{◌≡◌, ◌<◌, ◌≤◌, ℕ, [], IfOk, IfSome, length, slice_index_or};
-ghost use Rattle.pipe_base.specs.ShortestRoute.{not_dropped, route};
-ghost use Rattle.pipe_route.specs.Routing.{Routing, routing_by};
+ghost use Rattle.std.specs.Prelude.{◌≡◌, ◌<◌, [], IfOk, IfSome, length};
+ghost use Rattle.pipe_base.specs.ShortestRoute.{route};
 ghost use Rattle.pipe_world.specs.Network.{HasRoutes};
 
 use pipe_base::{HostId, LinkId, NoMemory, NodeId, Router};

@@ -1,8 +1,7 @@
 // The waiting lists of all links.
-ghost use Rattle.std.specs.Prelude.{◌≡◌, ℕ, ◌∷◌, ◌<◌, ◌≤◌, List, [], All, IfOk, OnOk, OnErr, length, take, slice_index_or};
+ghost use Rattle.std.specs.Prelude.{◌≡◌, ℕ, ◌∷◌, ◌<◌, ◌≤◌, List, [], IfOk, OnOk, OnErr, length, take, slice_index_or};
 ghost use Rattle.pipe_base.specs.declared.packet.Packet.{Packet};
 ghost use Rattle.pipe_model.specs.Acting.{is_idle};
-ghost use Rattle.pipe_model.specs.Waiting.{left_after};
 ghost use Rattle.pipe_world.specs.Queues.{HavePut, AreKnown, IsInPlace, HasLeft};
 
 use crate::queue::Queue;

@@ -1,5 +1,5 @@
 // What a node does in a step, worked out before anything is changed but for the message that it holds.
-ghost use Rattle.std.specs.Prelude.{◌≡◌, ◌+◌, ◌<◌, ◌≤◌, ℕ, Bool, max, true, Some, List, All, IfOk, OnOk, OnErr, length};
+ghost use Rattle.std.specs.Prelude.{◌≡◌, ◌+◌, ◌<◌, ◌≤◌, ℕ, Bool, max, Some, All, IfOk, OnOk, OnErr, length};
 ghost use Rattle.pipe_base.specs.declared.message.Service.{Service};
 ghost use Rattle.pipe_base.specs.declared.message.Service.TheVariants.{BestEffort};
 ghost use Rattle.pipe_base.specs.Messages.{Messages};
