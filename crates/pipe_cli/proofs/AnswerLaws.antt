@@ -1,5 +1,5 @@
 -- Lemmas on statuses.
-use Rattle.std.proofs.Common.{◌≡◌, ◌≢◌, ◌⊎◌, ℕ, ◌<◌, ◌≤◌, Bool, true, false, List, [], ◌++◌, length, reverse, take, Option, None, Some, refl, ap, sym, subst, ◌∙◌, arith, inl, inr, append-nil, nat_lt, if◌then◌else◌}
+use Rattle.std.proofs.Common.{◌≡◌, ◌⊎◌, ℕ, ◌≤◌, Bool, true, false, List, [], ◌++◌, length, reverse, take, Option, None, Some, refl, ap, sym, subst, ◌∙◌, arith, inl, inr, append-nil, nat_lt, if◌then◌else◌}
 use Rattle.std.specs.Prelude.{Result}
 use Rattle.std.specs.Prelude as result
 use Rattle.std.proofs.lemmas.Bool.{cases_lt}
@@ -10,7 +10,6 @@ use Rattle.pipe_base.specs.Graph.{Graph}
 use Rattle.pipe_model.specs.declared.record.Record.{Record}
 use Rattle.pipe_text_input.specs.declared.input.Input.{Input}
 use Rattle.pipe_text_input.specs.declared.input.InputFault.{InputFault}
-use Rattle.pipe_text_input.specs.declared.input.InputFault.TheVariants as fault
 use Rattle.pipe_text_input.specs.Content.{Content, content_of}
 use Rattle.pipe_text_input.specs.Read.{IsRead}
 use Rattle.pipe_text_log.specs.LogText.{log_text}
@@ -21,25 +20,12 @@ use Rattle.pipe_cli.specs.Input.{says, told}
 use Rattle.pipe_cli.specs.Read.{WasRead}
 use Rattle.pipe_cli.specs.Replay.{IsOrderedRun, IsOverfull, IsRefusal, Replays}
 use Rattle.pipe_cli.specs.Running.{IsStopped}
-use Rattle.pipe_cli.specs.Status.{status_of_fault}
 
 -- what is short enough says what its content is
 pub short_says : (bytes : List ℕ) → length bytes ≤ 67108864 → says bytes ≡ told (content_of bytes)
 short_says bytes few =
     let test : nat_lt 67108864 (length bytes) ≡ false = grind (arith, nat_tests) in
     ap (λ (t : Bool). if t then result.Err (TooLong Bytes 67108865) else told (content_of bytes)) test
-
-pub long_says : (bytes : List ℕ) → 67108864 < length bytes → says bytes ≡ result.Err (TooLong Bytes 67108865)
-long_says bytes many =
-    let test : nat_lt 67108864 (length bytes) ≡ true = grind (arith, nat_tests) in
-    ap (λ (t : Bool). if t then result.Err (TooLong Bytes 67108865) else told (content_of bytes)) test
-
--- a fault of the content is a refusal
-pub fault_refuses : (bytes : List ℕ) (bad : InputFault) → length bytes ≤ 67108864 → (bad ≢ fault.NoMemory → content_of bytes ≡ result.Err bad) → IsRefusal bytes (status_of_fault bad)
-fault_refuses bytes (fault.Plan f) few is = short_says bytes few ∙ ap told (is (λ same. cc))
-fault_refuses bytes (fault.TooManyEvents count) few is = short_says bytes few ∙ ap told (is (λ same. cc))
-fault_refuses bytes (fault.Line line kind) few is = short_says bytes few ∙ ap told (is (λ same. cc))
-fault_refuses bytes fault.NoMemory few is = tt
 
 -- what was replayed asks for Ok
 replay_runs : (bytes : List ℕ) (trace : List Record) (text : List ℕ) → Replays bytes trace text → CanRun bytes
@@ -81,17 +67,6 @@ refusal_complete left rest bytes all status refusal read is =
       | inl asks ↦ inl (asked_in_front left rest bytes all status asks read is)
       | inr none ↦ inr none
     ]
-
--- a refusal is of what was read
-pub refusal_of_input : (left rest : Option (List ℕ)) (bytes : List ℕ) (status : Status) → IsRefusal bytes status → WasRead left rest bytes → IsOfInput left rest status
-refusal_of_input left rest bytes Ok refusal read = absurd refusal
-refusal_of_input left rest bytes Usage refusal read = tt
-refusal_of_input left rest bytes ReadFault refusal read = tt
-refusal_of_input left rest bytes WriteFault refusal read = absurd refusal
-refusal_of_input left rest bytes (BadTopology fault) refusal read = record { bytes = bytes; read = read; asks = refusal }
-refusal_of_input left rest bytes (BadSchedule line kind) refusal read = record { bytes = bytes; read = read; asks = refusal }
-refusal_of_input left rest bytes (TooLong what count) refusal read = record { bytes = bytes; read = read; asks = refusal }
-refusal_of_input left rest bytes NoMemory refusal read = tt
 
 -- what was written is of the input
 pub written_of_input : (left rest old new : Option (List ℕ)) (bytes text : List ℕ) (trace : List Record) (status : Status)

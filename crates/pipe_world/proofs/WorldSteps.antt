@@ -1,6 +1,6 @@
 -- One event of the world: its record is what the rules say, and what is kept follows it.
 use Rattle.std.proofs.Common.{◌≡◌, ◌≢◌, ℕ, ◌<◌, Bool, true, false, if◌then◌else◌, List, [], ◌∷◌, ◌++◌, length, set, refl, sym, subst, ap, ◌∙◌, arith, inl, inr, eq-eqb, ne_eqb}
-use Rattle.std.specs.Prelude.{nat_lt, not, reverse, slice_get, slice_index_or, Result, OnOk, OnErr, IfErr, is_err}
+use Rattle.std.specs.Prelude.{nat_lt, not, reverse, slice_get, slice_index_or, Result, OnOk, OnErr}
 use Rattle.std.specs.Prelude.{Ok as ResultOk, Err as ResultErr}
 use Rattle.std.proofs.lemmas.Bool.{and_from, and_left, or_from, both_ways, cases_eq}
 use Rattle.std.proofs.lemmas.List.{reverse-append, get_or-set_same, get_or-set_other, length-set}
@@ -238,15 +238,3 @@ unchanged graph nodes lists trace new is keeps = subst (λ (past : List Record).
 pub either_way : {T E : Type 0} (result : Result T E) (A B G : Type 0) → OnOk result A → OnErr result B → (A → G) → (B → G) → G
 either_way (ResultOk x) A B G a b f g = f a
 either_way (ResultErr e) A B G a b f g = g b
-
-pub ok_from : {T E : Type 0} (result : Result T E) (P : Type 0) → false ≡ is_err result → OnOk result P → P
-ok_from (ResultOk x) P is p = p
-ok_from (ResultErr e) P is p = cc
-
-pub err_from : {T E : Type 0} (result : Result T E) (P : Type 0) → true ≡ is_err result → OnErr result P → P
-err_from (ResultOk x) P is p = cc
-err_from (ResultErr e) P is p = p
-
-pub err_gives : {T E : Type 0} (result : Result T E) (Q : E → Type 0) (P : Type 0) → ((e : E) → Q e → P) → IfErr result Q → OnErr result P
-err_gives (ResultOk x) Q P f q = tt
-err_gives (ResultErr e) Q P f q = f e q
