@@ -2,6 +2,7 @@ pub mod Barrier
 pub mod Below
 pub mod Calls
 pub mod Graph
+pub mod Limits
 pub mod Messages
 pub mod Moment
 pub mod Outside
