@@ -1,6 +1,8 @@
 pub mod Barrier
 pub mod Below
 pub mod Calls
+pub mod Clock
+pub mod Fate
 pub mod Graph
 pub mod Limits
 pub mod Messages

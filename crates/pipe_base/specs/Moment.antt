@@ -18,18 +18,15 @@ pub data Moment : Type 0 where
 -- a link is up until it goes down or is dropped
 abbrev pub is_up : List Moment → ℕ → Bool
 is_up [] link = true
-is_up (Received l be commit ∷ past) link = is_up past link
-is_up (Counted l be commit ∷ past) link = is_up past link
 is_up (WentDown l ∷ past) link = if l == link then false else is_up past link
 is_up (Dropped l ∷ past) link = if l == link then false else is_up past link
+is_up (_ ∷ past) link = is_up past link
 
 -- a link is kept until it is dropped
 abbrev pub is_kept : List Moment → ℕ → Bool
 is_kept [] link = true
-is_kept (Received l be commit ∷ past) link = is_kept past link
-is_kept (Counted l be commit ∷ past) link = is_kept past link
-is_kept (WentDown l ∷ past) link = is_kept past link
 is_kept (Dropped l ∷ past) link = if l == link then false else is_kept past link
+is_kept (_ ∷ past) link = is_kept past link
 
 -- a link is in best-effort use while it is up, and in commit use while it is kept
 abbrev pub is_used : Plane → List Moment → ℕ → Bool

@@ -1,47 +1,39 @@
 -- Which node acts in an event, and what a node did by itself.
 use Rattle.std.specs.Prelude.{ℕ, ◌==◌, ◌&&◌, not, Bool, true, false, List, filter}
 use Rattle.pipe_base.specs.declared.control.To.{To}
-use Rattle.pipe_base.specs.declared.control.To.TheVariants.{Controller, Node}
+use Rattle.pipe_base.specs.declared.control.To.TheVariants.{Node}
 use Rattle.pipe_base.specs.declared.step.Outcome.{Outcome}
-use Rattle.pipe_base.specs.declared.step.Outcome.TheVariants.{Ok, DestFailed, Window, ClockEnd, Crashed, NoItem, Ignored}
+use Rattle.pipe_base.specs.declared.step.Outcome.TheVariants.{Crashed, NoItem}
 use Rattle.pipe_base.specs.Graph.{Graph, head_of}
 use Rattle.pipe_model.specs.declared.event.Event.{Event}
-use Rattle.pipe_model.specs.declared.event.Event.TheVariants.{Send, Tick, Take, Lose, ControlTake, ControlLose, Decide, Crash, Cut}
+use Rattle.pipe_model.specs.declared.event.Event.TheVariants.{Send, Tick, Take, ControlTake, Crash}
 use Rattle.pipe_model.specs.declared.record.Record.{Record}
 use Rattle.pipe_model.specs.declared.record.Took.{Took}
-use Rattle.pipe_model.specs.declared.record.Took.TheVariants.{Nothing, Link, Message}
+use Rattle.pipe_model.specs.declared.record.Took.TheVariants.{Message}
 
 abbrev pub is_to : ℕ → To → Bool
-is_to node Controller = false
 is_to node (Node n) = n.0 == node
+is_to node _ = false
 
 -- a control message reached this node
 abbrev pub reached : ℕ → Took → Bool
-reached node Nothing = false
-reached node (Link l p) = false
 reached node (Message a) = is_to node a.to
+reached node _ = false
 
 -- the node acts: the host or half that is named, the head of the link of a take, the receiver of a control message
 abbrev pub acts : Graph → ℕ → Event → Took → Bool
 acts graph node (Send host service now dests) took = host.0 == node
 acts graph node (Tick n now) took = n.0 == node
 acts graph node (Take link place keep) took = head_of graph link.0 == node
-acts graph node (Lose link place) took = false
 acts graph node (ControlTake place keep) took = reached node took
-acts graph node (ControlLose place) took = false
-acts graph node Decide took = false
 acts graph node (Crash n) took = n.0 == node
-acts graph node (Cut link) took = false
+acts graph node _ took = false
 
 -- nothing happened
 abbrev pub is_idle : Outcome → Bool
-is_idle Ok = false
-is_idle (DestFailed host) = false
-is_idle (Window count) = false
-is_idle (ClockEnd next) = false
 is_idle Crashed = true
 is_idle NoItem = true
-is_idle Ignored = false
+is_idle _ = false
 
 -- the record is one of this node's own
 abbrev pub is_own : Graph → ℕ → Record → Bool

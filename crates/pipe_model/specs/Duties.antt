@@ -1,20 +1,19 @@
 -- Which packets a node owes in a record, and the two barriers that they carry.
-use Rattle.std.specs.Prelude.{ℕ, ◌==◌, ◌&&◌, not, if◌then◌else◌, Bool, true, false, List, [], ◌∷◌, ◌++◌, Option, None, Some, map, filter, count_by, is_none}
-use Rattle.std.specs.List.{list_any}
+use Rattle.std.specs.Prelude.{ℕ, ◌&&◌, not, if◌then◌else◌, List, [], ◌∷◌, ◌++◌, Option, None, Some, map, filter, count_by, is_none}
 use Rattle.pipe_base.specs.declared.name.HostId.{HostId}
 use Rattle.pipe_base.specs.declared.name.LinkId.{LinkId}
 use Rattle.pipe_base.specs.declared.name.Ts.{Ts}
 use Rattle.pipe_base.specs.declared.control.Addressed.{Addressed}
 use Rattle.pipe_base.specs.declared.packet.Packet.{Packet}
-use Rattle.pipe_base.specs.declared.packet.PacketKind.{PacketKind}
-use Rattle.pipe_base.specs.declared.packet.PacketKind.TheVariants.{Beacon, Plain, Prepare, Ack, Recall, RecallAck}
+use Rattle.pipe_base.specs.declared.packet.PacketKind.TheVariants.{Beacon, Plain}
 use Rattle.pipe_base.specs.declared.packet.Plane.TheVariants as plane
 use Rattle.pipe_base.specs.Graph.{Graph, is_host, is_half, outs_of}
-use Rattle.pipe_base.specs.ShortestRoute.{route}
+use Rattle.pipe_base.specs.ShortestRoute.{not_dropped, route}
 use Rattle.pipe_model.specs.declared.event.Event.{Event}
-use Rattle.pipe_model.specs.declared.event.Event.TheVariants.{Send, Tick, Take, Lose, ControlTake, ControlLose, Decide, Crash, Cut}
+use Rattle.pipe_model.specs.declared.event.Event.TheVariants.{Send, Tick, Take}
 use Rattle.pipe_model.specs.declared.record.Record.{Record}
 use Rattle.pipe_model.specs.Clock.{next, promise}
+use Rattle.pipe_model.specs.Got.{is_beacon}
 use Rattle.pipe_model.specs.Moments.{received, barrier_at, known_drops}
 
 -- the two barriers of a packet
@@ -30,9 +29,10 @@ host_be (Some ts) next = ts.0
 -- All fields are those after the record: a host's promise, or the barriers of a half.
 abbrev pub fields : Graph → ℕ → List Record → Record → Fields
 fields graph node own r =
-    if is_host graph node then record { be = host_be r.step.stamped (next (r ∷ own)); commit = promise (r ∷ own) }
+    if is_host graph node then record { be = host_be r.step.stamped (next (r ∷ own)); commit = promise graph node (r ∷ own) }
     else record { be = barrier_at plane.BestEffort graph node (r ∷ own); commit = barrier_at plane.Commit graph node (r ∷ own) }
 
+-- a number as a timestamp
 abbrev pub ts_of : ℕ → Ts
 ts_of n = record { 0 = n }
 
@@ -45,16 +45,9 @@ message_to src ts f dest =
 abbrev pub forwarded : Fields → Packet → Packet
 forwarded f p = record p { be = ts_of f.be; commit = ts_of f.commit }
 
+-- a packet that carries its two barriers alone
 abbrev pub beacon : Fields → Packet
 beacon f = record { kind = Beacon; src = record { 0 = 0 }; dst = record { 0 = 0 }; ts = ts_of 0; be = ts_of f.be; commit = ts_of f.commit; body = [] }
-
-abbrev pub is_beacon : PacketKind → Bool
-is_beacon Beacon = true
-is_beacon Plain = false
-is_beacon Prepare = false
-is_beacon Ack = false
-is_beacon Recall = false
-is_beacon RecallAck = false
 
 -- a send owes a message to each receiver, in listed order
 abbrev pub owed_by_send : HostId → Fields → List (HostId × List ℕ) → Option Ts → List Packet
@@ -69,42 +62,28 @@ owed_by_take graph node f (Some q) = if is_half graph node && not (is_beacon q.1
 -- the packets that are to find a way
 abbrev pub owed_of : Graph → ℕ → Fields → Event → Option Ts → Option (ℕ × Packet) → List Packet
 owed_of graph node f (Send host service now dests) stamp received = owed_by_send host f dests stamp
-owed_of graph node f (Tick n now) stamp received = []
 owed_of graph node f (Take link place keep) stamp received = owed_by_take graph node f received
-owed_of graph node f (Lose link place) stamp received = []
-owed_of graph node f (ControlTake place keep) stamp received = []
-owed_of graph node f (ControlLose place) stamp received = []
-owed_of graph node f Decide stamp received = []
-owed_of graph node f (Crash n) stamp received = []
-owed_of graph node f (Cut link) stamp received = []
+owed_of graph node f _ stamp received = []
 
+-- what the node owes in a record
 abbrev pub owed : Graph → ℕ → List Record → Record → List Packet
 owed graph node own r = owed_of graph node (fields graph node own r) r.event r.step.stamped (received own r)
 
--- a link is among these
-abbrev pub has_link : List LinkId → LinkId → Bool
-has_link links l = list_any (λ m. m.0 == l.0) links
-
 -- a tick owes a beacon on each out-link that the node does not know as dropped, in rising number
 abbrev pub beacons_of : Graph → ℕ → List LinkId → Fields → Event → List (LinkId × Packet)
-beacons_of graph node dropped f (Send host service now dests) = []
-beacons_of graph node dropped f (Tick n now) = map (λ l. (l, beacon f)) (filter (λ l. not (has_link dropped l)) (outs_of graph node))
-beacons_of graph node dropped f (Take link place keep) = []
-beacons_of graph node dropped f (Lose link place) = []
-beacons_of graph node dropped f (ControlTake place keep) = []
-beacons_of graph node dropped f (ControlLose place) = []
-beacons_of graph node dropped f Decide = []
-beacons_of graph node dropped f (Crash n) = []
-beacons_of graph node dropped f (Cut link) = []
+beacons_of graph node dropped f (Tick n now) = map (λ l. (l, beacon f)) (filter (λ l. not_dropped dropped l.0) (outs_of graph node))
+beacons_of graph node dropped f _ = []
 
+-- the beacons of a record
 abbrev pub beacons : Graph → ℕ → List Record → Record → List (LinkId × Packet)
 beacons graph node own r = beacons_of graph node (known_drops (r ∷ own)) (fields graph node own r) r.event
 
--- the packets that have a way, each on its link
+-- a packet before others, where it has a way
 abbrev pub on_way : Option LinkId → Packet → List (LinkId × Packet) → List (LinkId × Packet)
 on_way None p puts = puts
 on_way (Some l) p puts = (l, p) ∷ puts
 
+-- the packets that have a way, each on its link
 abbrev pub routed : Graph → List LinkId → ℕ → List Packet → List (LinkId × Packet)
 routed graph dropped node [] = []
 routed graph dropped node (p ∷ ps) = on_way (route graph dropped node p.src.0 p.dst.0) p (routed graph dropped node ps)
@@ -117,6 +96,7 @@ lost graph dropped node packets = count_by (λ p. is_none (route graph dropped n
 abbrev pub put : Graph → ℕ → List Record → Record → List (LinkId × Packet)
 put graph node own r = routed graph (known_drops (r ∷ own)) node (owed graph node own r) ++ beacons graph node own r
 
+-- how many owed packets have no way
 abbrev pub unrouted : Graph → ℕ → List Record → Record → ℕ
 unrouted graph node own r = lost graph (known_drops (r ∷ own)) node (owed graph node own r)
 

@@ -3,11 +3,13 @@ pub mod Clock
 pub mod Duties
 pub mod Event
 pub mod Fate
+pub mod Got
 pub mod Items
 pub mod Logged
 pub mod Marks
 pub mod Moments
 pub mod Order
 pub mod Outcome
+pub mod OwnOutcome
 pub mod Run
 pub mod Waiting

@@ -4,7 +4,7 @@ use Rattle.pipe_base.specs.declared.message.Entry.{Entry}
 use Rattle.pipe_base.specs.declared.message.Service.{Service}
 use Rattle.pipe_base.specs.declared.message.Service.TheVariants.{BestEffort, Reliable}
 use Rattle.pipe_base.specs.Graph.{Graph}
-use Rattle.pipe_base.specs.Messages.{Messages, from_barrier, below_barrier, entry_of}
+use Rattle.pipe_base.specs.Messages.{Messages, from_barrier, below_barrier, logged_of}
 use Rattle.pipe_model.specs.declared.record.Record.{Record}
 use Rattle.pipe_model.specs.Moments.{barrier_at}
 use Rattle.pipe_model.specs.Fate.{plane_of, held}
@@ -15,18 +15,14 @@ passed_in service graph node own r =
     below_barrier (barrier_at (plane_of service) graph node (r ∷ own))
     (from_barrier (barrier_at (plane_of service) graph node own) (held service graph node (r ∷ own)))
 
-abbrev pub logged_in : Service → Graph → ℕ → List Record → Record → List (Service × Entry)
-logged_in service graph node own r = map (λ m. (service, entry_of m)) (passed_in service graph node own r)
-
 -- what the record logs: best effort alone, as reliable messages are not built yet
 abbrev pub logged : Graph → ℕ → List Record → Record → List (Service × Entry)
-logged graph node own r = logged_in BestEffort graph node own r
+logged graph node own r = logged_of BestEffort (passed_in BestEffort graph node own r)
 
 abbrev pub same_service : Service → Service → Bool
 same_service BestEffort BestEffort = true
-same_service BestEffort Reliable = false
-same_service Reliable BestEffort = false
 same_service Reliable Reliable = true
+same_service _ _ = false
 
 -- the entries of one service
 abbrev pub entries_of : Service → List (Service × Entry) → List Entry

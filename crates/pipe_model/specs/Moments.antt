@@ -10,40 +10,32 @@ use Rattle.pipe_base.specs.Graph.{Graph, ins_of}
 use Rattle.pipe_base.specs.Moment.{Moment, Received, Counted, WentDown, Dropped, is_up}
 use Rattle.pipe_base.specs.Barrier.{barrier}
 use Rattle.pipe_model.specs.declared.event.Event.{Event}
-use Rattle.pipe_model.specs.declared.event.Event.TheVariants.{Send, Tick, Take, Lose, ControlTake, ControlLose, Decide, Crash, Cut}
+use Rattle.pipe_model.specs.declared.event.Event.TheVariants.{Take}
 use Rattle.pipe_model.specs.declared.record.Record.{Record}
 use Rattle.pipe_model.specs.declared.record.Took.{Took}
-use Rattle.pipe_model.specs.declared.record.Took.TheVariants.{Nothing, Link, Message}
+use Rattle.pipe_model.specs.declared.record.Took.TheVariants.{Link}
 
 -- the packet that a take of a link brings, where the link is up
 abbrev pub taken_from : List Moment → ℕ → Took → Option (ℕ × Packet)
-taken_from past link Nothing = None
 taken_from past link (Link l p) = if (l.0 == link) && is_up past link then Some (link, p) else None
-taken_from past link (Message a) = None
+taken_from past link _ = None
 
 -- the packet received, with its link: a take of that link that is up
 abbrev pub received_of : List Moment → Event → Took → Option (ℕ × Packet)
-received_of past (Send host service now dests) took = None
-received_of past (Tick node now) took = None
 received_of past (Take link place keep) took = taken_from past link.0 took
-received_of past (Lose link place) took = None
-received_of past (ControlTake place keep) took = None
-received_of past (ControlLose place) took = None
-received_of past Decide took = None
-received_of past (Crash node) took = None
-received_of past (Cut link) took = None
+received_of past _ took = None
 
 -- the step takes no link out of use
 abbrev pub keeps_links : List (LinkId × Ts) → List LinkId → Bool
 keeps_links [] [] = true
-keeps_links [] (l ∷ ls) = false
-keeps_links (d ∷ ds) dropped = false
+keeps_links _ _ = false
 
 -- a received packet is looked at by itself only where the step takes no link out of use
 abbrev pub receipt : Bool → (ℕ × Packet) → Moment
 receipt true q = Received q.0 q.1.be.0 q.1.commit.0
 receipt false q = Counted q.0 q.1.be.0 q.1.commit.0
 
+-- the moments of a step, one kind after the other
 abbrev pub with_received : Bool → Option (ℕ × Packet) → List Moment → List Moment
 with_received looked None past = past
 with_received looked (Some q) past = receipt looked q ∷ past
@@ -74,11 +66,12 @@ received own r = received_of (moments_of own) r.event r.took
 abbrev pub barrier_at : Plane → Graph → ℕ → List Record → ℕ
 barrier_at plane graph node own = barrier plane (ins_of graph node) (moments_of own)
 
--- the failed hosts that a host has noted, and the links that a node knows as dropped, in the order of coming to know
+-- the failed hosts that a host has noted, in the order of coming to know
 abbrev pub noted_hosts : List Record → List Announced
 noted_hosts [] = []
 noted_hosts (r ∷ own) = noted_hosts own ++ r.step.noted
 
+-- the links that a node knows as dropped, in the order of coming to know
 abbrev pub known_drops : List Record → List LinkId
 known_drops [] = []
 known_drops (r ∷ own) = known_drops own ++ r.step.dropped

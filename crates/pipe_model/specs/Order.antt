@@ -2,12 +2,11 @@
 use Rattle.std.specs.Prelude.{◌≡◌, ◌⊎◌, ℕ, ◌<◌, List, [], ◌∷◌, All, Some, IfSome, true, Contains}
 use Rattle.pipe_base.specs.declared.message.Entry.{Entry}
 use Rattle.pipe_base.specs.declared.message.Service.{Service}
-use Rattle.pipe_base.specs.declared.message.Service.TheVariants.{BestEffort, Reliable}
 use Rattle.pipe_base.specs.declared.step.Outcome.TheVariants.{Ok}
 use Rattle.pipe_base.specs.Graph.{Graph}
 use Rattle.pipe_base.specs.Messages.{Before}
 use Rattle.pipe_model.specs.declared.event.Event.{Event}
-use Rattle.pipe_model.specs.declared.event.Event.TheVariants.{Send, Tick, Take, Lose, ControlTake, ControlLose, Decide, Crash, Cut}
+use Rattle.pipe_model.specs.declared.event.Event.TheVariants.{Send}
 use Rattle.pipe_model.specs.declared.record.Record.{Record}
 use Rattle.pipe_model.specs.Acting.{is_own, own}
 use Rattle.pipe_model.specs.Logged.{log, entries_of}
@@ -34,17 +33,10 @@ IsCausal (r ∷ own) = IsCausal own × IfSome r.step.stamped (λ ts. IsAboveLogs
 abbrev pub AreStampsCausal : Graph → List Record → Type 0
 AreStampsCausal graph past = (host : ℕ) → host < graph.hosts → IsCausal (own graph host past)
 
+-- a send of this service by the entry's sender, which lists the host with the entry's body
 abbrev pub IsSendTo : Service → ℕ → Entry → Event → Type 0
-IsSendTo service host entry (Send src BestEffort now dests) = (service ≡ BestEffort) × ((src ≡ entry.key.src) × Contains dests (record { 0 = host }, entry.body))
-IsSendTo service host entry (Send src Reliable now dests) = (service ≡ Reliable) × ((src ≡ entry.key.src) × Contains dests (record { 0 = host }, entry.body))
-IsSendTo service host entry (Tick node now) = ⊥
-IsSendTo service host entry (Take link place keep) = ⊥
-IsSendTo service host entry (Lose link place) = ⊥
-IsSendTo service host entry (ControlTake place keep) = ⊥
-IsSendTo service host entry (ControlLose place) = ⊥
-IsSendTo service host entry Decide = ⊥
-IsSendTo service host entry (Crash node) = ⊥
-IsSendTo service host entry (Cut link) = ⊥
+IsSendTo service host entry (Send src sent now dests) = (service ≡ sent) × ((src ≡ entry.key.src) × Contains dests (record { 0 = host }, entry.body))
+IsSendTo service host entry _ = ⊥
 
 -- the record is a send by the entry's sender that was accepted, stamped with its timestamp, and lists the host with its body
 pub record IsSendOf (service : Service) (host : ℕ) (entry : Entry) (r : Record) : Type 0 where

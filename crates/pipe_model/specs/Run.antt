@@ -1,25 +1,25 @@
 -- A run: what each record must be, given those before it.
-use Rattle.std.specs.Prelude.{◌≡◌, ℕ, ◌||◌, Bool, true, false, List, [], ◌∷◌, map, reverse}
+use Rattle.std.specs.Prelude.{◌≡◌, ℕ, true, false, List, [], ◌∷◌, map, reverse}
 use Rattle.pipe_base.specs.Graph.{Graph}
 use Rattle.pipe_base.specs.Step.{quiet_step}
 use Rattle.pipe_model.specs.declared.event.Event.{Event}
-use Rattle.pipe_model.specs.declared.event.Event.TheVariants.{Send, Tick, Take, Lose, ControlTake, ControlLose, Decide, Crash, Cut}
 use Rattle.pipe_model.specs.declared.record.Record.{Record}
-use Rattle.pipe_model.specs.Acting.{is_idle, is_own, own}
-use Rattle.pipe_model.specs.Clock.{stamped}
+use Rattle.pipe_model.specs.Acting.{is_own, own}
 use Rattle.pipe_model.specs.Duties.{put, unrouted, control}
 use Rattle.pipe_model.specs.Event.{IsBuilt}
 use Rattle.pipe_model.specs.Fate.{fate}
 use Rattle.pipe_model.specs.Logged.{logged}
 use Rattle.pipe_model.specs.Marks.{downed, newly_dropped, newly_noted}
 use Rattle.pipe_model.specs.Outcome.{outcome_of, took_of}
+use Rattle.pipe_model.specs.OwnOutcome.{own_outcome, stamped}
 
 -- What a node owes in a record of its own, given its own records before it.
 pub record IsNodeStep (graph : Graph) (node : ℕ) (own : List Record) (r : Record) : Type 0 where
+  pub outcome_is : r.step.outcome ≡ own_outcome graph node own r.event
   pub downed_is : r.step.downed ≡ downed graph node own r
   pub dropped_is : r.step.dropped ≡ newly_dropped graph node own r
   pub noted_is : r.step.noted ≡ newly_noted graph node own r
-  pub stamped_is : r.step.stamped ≡ stamped own r.event
+  pub stamped_is : r.step.stamped ≡ stamped graph node own r.event
   pub fate_is : r.step.fate ≡ fate graph node own r
   pub logged_is : r.step.logged ≡ logged graph node own r
   pub put_is : r.step.put ≡ put graph node own r
@@ -31,29 +31,13 @@ abbrev pub IsNodeHistory : Graph → ℕ → List Record → Type 0
 IsNodeHistory graph node [] = Unit {0}
 IsNodeHistory graph node (r ∷ own) = IsNodeHistory graph node own × IsNodeStep graph node own r
 
--- no node acts in a loss, and a cut concerns no node
-abbrev pub is_of_nobody : Event → Bool
-is_of_nobody (Send host service now dests) = false
-is_of_nobody (Tick node now) = false
-is_of_nobody (Take link place keep) = false
-is_of_nobody (Lose link place) = true
-is_of_nobody (ControlTake place keep) = false
-is_of_nobody (ControlLose place) = true
-is_of_nobody Decide = false
-is_of_nobody (Crash node) = false
-is_of_nobody (Cut link) = true
-
--- nothing is done in the record
-abbrev pub is_quiet : Record → Bool
-is_quiet r = is_idle r.step.outcome || is_of_nobody r.event
-
 -- What a record is after a history: the event is one of those built so far, the outcome and what is taken are as told,
--- nothing is done where nobody acts, and the acting node does what it owes.
+-- nothing is done where the record is no node's own, and the node whose it is does what it owes.
 pub record IsStep (graph : Graph) (past : List Record) (r : Record) : Type 0 where
   pub built : IsBuilt r.event
   pub outcome_is : r.step.outcome ≡ outcome_of graph past r.event
-  pub took_is : r.took ≡ took_of past r.event
-  pub quiet : is_quiet r ≡ true → r.step ≡ quiet_step r.step.outcome
+  pub took_is : r.took ≡ took_of graph past r.event
+  pub quiet : ((n : ℕ) → is_own graph n r ≡ false) → r.step ≡ quiet_step r.step.outcome
   pub node : (n : ℕ) → is_own graph n r ≡ true → IsNodeStep graph n (own graph n past) r
 
 -- a history: the records so far, newest first

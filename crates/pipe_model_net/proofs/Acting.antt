@@ -1,45 +1,52 @@
--- A record of a history is quiet, or some node acts in it.
-use Rattle.std.proofs.Common.{◌≡◌, ◌⊎◌, ℕ, ◌==◌, Bool, true, false, List, [], refl, inl, inr, ap, arith}
-use Rattle.pipe_base.specs.declared.message.Service.TheVariants.{BestEffort, Reliable}
+-- A record of a history is some node's own, or nobody's and quiet.
+use Rattle.std.proofs.Common.{◌≡◌, ◌⊎◌, ℕ, ◌==◌, ◌&&◌, not, Bool, true, false, List, [], refl, inl, inr, ap, arith}
+use Rattle.std.proofs.lemmas.Bool.{and_right}
+use Rattle.pipe_base.specs.declared.control.To.{To}
+use Rattle.pipe_base.specs.declared.control.To.TheVariants.{Node}
 use Rattle.pipe_base.specs.declared.step.Step.{Step}
 use Rattle.pipe_base.specs.Graph.{Graph, head_of}
 use Rattle.pipe_model.specs.declared.event.Event.{Event}
-use Rattle.pipe_model.specs.declared.event.Event.TheVariants.{Send, Tick, Take, Lose, ControlTake, ControlLose, Decide, Crash, Cut}
+use Rattle.pipe_model.specs.declared.event.Event.TheVariants.{Send, Tick, Take, ControlTake, Crash}
 use Rattle.pipe_model.specs.declared.record.Record.{Record}
 use Rattle.pipe_model.specs.declared.record.Took.{Took}
-use Rattle.pipe_model.specs.Acting.{acts, is_idle, is_own}
-use Rattle.pipe_model.specs.Event.{IsBuilt}
-use Rattle.pipe_model.specs.Run.{IsStep, is_quiet, is_of_nobody}
+use Rattle.pipe_model.specs.declared.record.Took.TheVariants.{Message}
+use Rattle.pipe_model.specs.Acting.{acts, is_idle, is_own, is_to, reached}
+use Rattle.pipe_model.specs.Run.{IsStep}
 
 same : (n : ℕ) → (n == n) ≡ true
 same n = grind arith
 
--- some node acts in a built event that is not of nobody
-actor : (graph : Graph) (event : Event) (took : Took) → IsBuilt event → is_of_nobody event ≡ false → (n : ℕ) × (acts graph n event took ≡ true)
-actor graph (Send host BestEffort now dests) took built someone = (host.0, same host.0)
-actor graph (Send host Reliable now dests) took built someone = absurd built
-actor graph (Tick node now) took built someone = (node.0, same node.0)
-actor graph (Take link place keep) took built someone = (head_of graph link.0, same (head_of graph link.0))
-actor graph (Lose link place) took built someone = cc
-actor graph (ControlTake place keep) took built someone = absurd built
-actor graph (ControlLose place) took built someone = absurd built
-actor graph Decide took built someone = absurd built
-actor graph (Crash node) took built someone = absurd built
-actor graph (Cut link) took built someone = absurd built
+-- nobody acts, or some node does
+abbrev ActorOf : Graph → Event → Took → Type 0
+ActorOf graph event took = ((n : ℕ) → acts graph n event took ≡ false) ⊎ ((n : ℕ) × (acts graph n event took ≡ true))
 
-owns : (graph : Graph) (r : Record) → is_idle r.step.outcome ≡ false → (n : ℕ) × (acts graph n r.event r.took ≡ true) → (n : ℕ) × (is_own graph n r ≡ true)
-owns graph r busy a = (a.0, rw (a.1, busy) refl)
+receiver : (to : To) → ((n : ℕ) → is_to n to ≡ false) ⊎ ((n : ℕ) × (is_to n to ≡ true))
+receiver (Node n) = inr (n.0, same n.0)
+receiver _ = inl (λ n. refl)
 
-cases : (a b : Bool) (graph : Graph) (past : List Record) (r : Record) → is_idle r.step.outcome ≡ a → is_of_nobody r.event ≡ b → IsStep graph past r
-    → (is_quiet r ≡ true) ⊎ ((n : ℕ) × (is_own graph n r ≡ true))
-cases true b graph past r idle who step = inl (rw idle refl)
-cases false true graph past r idle who step = inl (rw (idle, who) refl)
-cases false false graph past r idle who step = inr (owns graph r idle (actor graph r.event r.took step.built who))
+reader : (took : Took) → ((n : ℕ) → reached n took ≡ false) ⊎ ((n : ℕ) × (reached n took ≡ true))
+reader (Message a) = receiver a.to
+reader _ = inl (λ n. refl)
 
-pub quiet_or_own : (graph : Graph) (past : List Record) (r : Record) → IsStep graph past r
-    → (is_quiet r ≡ true) ⊎ ((n : ℕ) × (is_own graph n r ≡ true))
-quiet_or_own graph past r step = cases (is_idle r.step.outcome) (is_of_nobody r.event) graph past r refl refl step
+actor : (graph : Graph) (event : Event) (took : Took) → ActorOf graph event took
+actor graph (Send host service now dests) took = inr (host.0, same host.0)
+actor graph (Tick node now) took = inr (node.0, same node.0)
+actor graph (Take link place keep) took = inr (head_of graph link.0, same (head_of graph link.0))
+actor graph (ControlTake place keep) took = reader took
+actor graph (Crash node) took = inr (node.0, same node.0)
+actor graph _ took = inl (λ n. refl)
 
--- a quiet record puts nothing
-pub quiet_puts : (graph : Graph) (past : List Record) (r : Record) → IsStep graph past r → is_quiet r ≡ true → r.step.put ≡ []
-quiet_puts graph past r step quiet = ap (λ (s : Step). s.put) (step.quiet quiet)
+abbrev pub IsNobodys : Graph → Record → Type 0
+IsNobodys graph r = (n : ℕ) → is_own graph n r ≡ false
+
+by_actor : (idle : Bool) (graph : Graph) (r : Record) → is_idle r.step.outcome ≡ idle → ActorOf graph r.event r.took → IsNobodys graph r ⊎ ((n : ℕ) × (is_own graph n r ≡ true))
+by_actor true graph r is a = inl (λ n. let awake : not (is_idle r.step.outcome) ≡ false = ap not is in and_right (acts graph n r.event r.took) (not (is_idle r.step.outcome)) awake)
+by_actor false graph r is (inl nobody) = inl (λ n. rw (nobody n) refl)
+by_actor false graph r is (inr a) = inr (a.0, rw (a.1, is) refl)
+
+pub nobodys_or_own : (graph : Graph) (r : Record) → IsNobodys graph r ⊎ ((n : ℕ) × (is_own graph n r ≡ true))
+nobodys_or_own graph r = by_actor (is_idle r.step.outcome) graph r refl (actor graph r.event r.took)
+
+-- a record that is nobody's puts nothing
+pub quiet_puts : (graph : Graph) (past : List Record) (r : Record) → IsStep graph past r → IsNobodys graph r → r.step.put ≡ []
+quiet_puts graph past r step nobody = ap (λ (s : Step). s.put) (step.quiet nobody)

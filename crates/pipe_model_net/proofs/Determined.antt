@@ -19,8 +19,8 @@ use Rattle.pipe_model.specs.Acting.{acts, is_idle, is_own, own}
 use Rattle.pipe_model.specs.Duties.{put, unrouted}
 use Rattle.pipe_model.specs.Logged.{logged}
 use Rattle.pipe_model.specs.Outcome.{took_of}
-use Rattle.pipe_model.specs.Run.{IsHistory, IsStep, IsNodeStep, is_quiet, is_of_nobody, event_of}
-use Rattle.pipe_model_net.proofs.Acting.{quiet_or_own}
+use Rattle.pipe_model.specs.Run.{IsHistory, IsStep, IsNodeStep, event_of}
+use Rattle.pipe_model_net.proofs.Acting.{IsNobodys, nobodys_or_own}
 
 abbrev of : Event → Took → Step → Record
 of e t s = record { event = e; took = t; step = s }
@@ -79,9 +79,9 @@ node_step_same graph n o e t a b sa sb out =
 step_same : (graph : Graph) (past : List Record) (e : Event) (t : Took) (a b : Step) → IsStep graph past (of e t a) → IsStep graph past (of e t b) → a ≡ b
 step_same graph past e t a b sa sb =
     let out : a.outcome ≡ b.outcome = sa.outcome_is ∙ sym sb.outcome_is in
-    elim (quiet_or_own graph past (of e t a) sa) [
+    elim (nobodys_or_own graph (of e t a)) [
       | inl quiet ↦
-          let quiet_b : is_quiet (of e t b) ≡ true = subst (λ (x : Outcome). is_quiet (of e t (record b { outcome = x })) ≡ true) out quiet in
+          let quiet_b : IsNobodys graph (of e t b) = subst (λ (x : Outcome). IsNobodys graph (of e t (record b { outcome = x }))) out quiet in
           sa.quiet quiet ∙ ap quiet_step out ∙ sym (sb.quiet quiet_b)
       | inr mine ↦
           let mine_b : is_own graph mine.0 (of e t b) ≡ true = subst (λ (x : Outcome). is_own graph mine.0 (of e t (record b { outcome = x })) ≡ true) out mine.1 in
@@ -90,7 +90,7 @@ step_same graph past e t a b sa sb =
 
 record_same : (graph : Graph) (past : List Record) (r s : Record) → r.event ≡ s.event → IsStep graph past r → IsStep graph past s → r ≡ s
 record_same graph past r s event sr ss =
-    let took : r.took ≡ s.took = ap (λ (x : Took). x) (sr.took_is ∙ ap (λ (e : Event). took_of past e) event ∙ sym ss.took_is) in
+    let took : r.took ≡ s.took = ap (λ (x : Took). x) (sr.took_is ∙ ap (λ (e : Event). took_of graph past e) event ∙ sym ss.took_is) in
     let moved : IsStep graph past (of s.event s.took r.step) =
     subst (λ (t : Took). IsStep graph past (of s.event t r.step)) took (subst (λ (e : Event). IsStep graph past (of e r.took r.step)) event sr) in
     let steps : r.step ≡ s.step = step_same graph past s.event s.took r.step s.step moved ss in

@@ -1,5 +1,5 @@
 -- What a host holds, and so what it logs, was sent to it with that body.
-use Rattle.std.proofs.Common.{◌≡◌, ℕ, ◌==◌, ◌&&◌, if◌then◌else◌, Bool, true, false, List, [], ◌∷◌, Option, None, Some, map, refl, inr, sym, subst, ap, ◌∙◌}
+use Rattle.std.proofs.Common.{◌≡◌, ℕ, ◌==◌, ◌&&◌, not, if◌then◌else◌, Bool, true, false, List, [], ◌∷◌, Option, None, Some, map, refl, inr, sym, subst, ap, ◌∙◌, arith}
 use Rattle.std.specs.List.{All}
 use Rattle.std.proofs.lemmas.List.Elements.{All-nil, All-map, All-weaker, All-filter}
 use Rattle.pipe_base.specs.declared.message.Entry.{Entry}
@@ -8,15 +8,16 @@ use Rattle.pipe_base.specs.declared.message.Service.{Service}
 use Rattle.pipe_base.specs.declared.message.Service.TheVariants.{BestEffort, Reliable}
 use Rattle.pipe_base.specs.declared.packet.Packet.{Packet}
 use Rattle.pipe_base.specs.declared.packet.PacketKind.{PacketKind}
-use Rattle.pipe_base.specs.declared.packet.PacketKind.TheVariants.{Beacon, Plain, Prepare, Ack, Recall, RecallAck}
+use Rattle.pipe_base.specs.declared.packet.PacketKind.TheVariants.{Plain}
 use Rattle.pipe_base.specs.declared.step.Fate.{Fate}
-use Rattle.pipe_base.specs.declared.step.Fate.TheVariants.{Held, Repeat, Late, Discarded, Recalled}
+use Rattle.pipe_base.specs.declared.step.Fate.TheVariants.{Held}
 use Rattle.pipe_base.specs.Graph.{Graph, is_host}
 use Rattle.pipe_base.specs.Messages.{Messages, entry_of, from_barrier}
 use Rattle.pipe_base.proofs.KeyOrder.{insert_all}
 use Rattle.pipe_model.specs.declared.record.Record.{Record}
 use Rattle.pipe_model.specs.Acting.{is_own, own}
-use Rattle.pipe_model.specs.Fate.{key_of, carries, got_of, got, fate_of, with_held, held, plane_of}
+use Rattle.pipe_model.specs.Fate.{fate_for, with_held, held, plane_of}
+use Rattle.pipe_model.specs.Got.{carries, gets_of, got, is_beacon, key_of, message_of}
 use Rattle.pipe_model.specs.Logged.{passed_in, entries_of}
 use Rattle.pipe_model.specs.Moments.{received, moments_of, barrier_at}
 use Rattle.pipe_model.specs.Order.{WasSent, LoggedWasSent, IsGenuine}
@@ -24,7 +25,7 @@ use Rattle.pipe_model.specs.Run.{IsHistory, IsStep}
 use Rattle.pipe_model.proofs.Entries.{best_entries, no_entries}
 use Rattle.pipe_model.proofs.Own.{own_more, own_same}
 use Rattle.pipe_model_net.proofs.Packets.{took_waited, at_place}
-use Rattle.pipe_model_net.proofs.Sent.{IsSent, entry_from, received_took, same_number, waiting_sent}
+use Rattle.pipe_model_net.proofs.Sent.{IsSent, entry_from, received_took, waiting_sent}
 use Rattle.pipe_model.specs.Waiting.{waiting_on}
 
 -- a message of a host was sent to it
@@ -38,29 +39,29 @@ pub record Brings (node : ℕ) (q : ℕ × Packet) (p : Packet) : Type 0 where
   pub kind : p.kind ≡ Plain
 
 plain_of : (k : PacketKind) → carries BestEffort k ≡ true → k ≡ Plain
-plain_of Beacon is = cc
 plain_of Plain is = refl
-plain_of Prepare is = cc
-plain_of Ack is = cc
-plain_of Recall is = cc
-plain_of RecallAck is = cc
+plain_of _ is = cc
+
+same_number : (a b : ℕ) → (a == b) ≡ true → a ≡ b
+same_number a b is = grind (arith, is)
 
 -- (a && (b && c)) is a test of all three
-brought_by : (a b c : Bool) (node : ℕ) (q : ℕ × Packet) (p : Packet) → (q.1.dst.0 == node) ≡ b → carries BestEffort q.1.kind ≡ c
-    → (if a && (b && c) then Some q.1 else None) ≡ Some p → Brings node q p
-brought_by true true true node q p dst kind is =
+brought_by : (a b c d : Bool) (node : ℕ) (q : ℕ × Packet) (p : Packet) → (q.1.dst.0 == node) ≡ b → carries BestEffort q.1.kind ≡ d
+    → (if d then Some q.1 else None) ≡ message_of BestEffort (Some q.1) → message_of BestEffort (if a && (b && c) then Some q.1 else None) ≡ Some p → Brings node q p
+brought_by true true true true node q p dst kind here is =
     let same : q.1 ≡ p = cc in
     record { same = same; dst = ap (λ (x : Packet). x.dst.0) (sym same) ∙ same_number q.1.dst.0 node dst; kind = ap (λ (x : Packet). x.kind) (sym same) ∙ plain_of q.1.kind kind }
-brought_by true true false node q p dst kind is = cc
-brought_by true false c node q p dst kind is = cc
-brought_by false b c node q p dst kind is = cc
+brought_by true true true false node q p dst kind here is = cc
+brought_by true true false d node q p dst kind here is = cc
+brought_by true false c d node q p dst kind here is = cc
+brought_by false b c d node q p dst kind here is = cc
 
-brings : (graph : Graph) (node : ℕ) (q : ℕ × Packet) (p : Packet) → got_of BestEffort graph node (Some q) ≡ Some p → Brings node q p
-brings graph node q p is = brought_by (is_host graph node) (q.1.dst.0 == node) (carries BestEffort q.1.kind) node q p refl refl is
+brings : (graph : Graph) (node : ℕ) (q : ℕ × Packet) (p : Packet) → message_of BestEffort (gets_of graph node (Some q)) ≡ Some p → Brings node q p
+brings graph node q p is = brought_by (is_host graph node) (q.1.dst.0 == node) (not (is_beacon q.1.kind)) (carries BestEffort q.1.kind) node q p refl refl refl is
 
 -- the message that a record brings was sent before
 got_sent : (graph : Graph) (past : List Record) (r : Record) (n : ℕ) (o : Option (ℕ × Packet)) (p : Packet) → IsHistory graph past → IsStep graph past r
-    → received (own graph n past) r ≡ o → got_of BestEffort graph n o ≡ Some p → SentTo n past (key_of p, p.body)
+    → received (own graph n past) r ≡ o → message_of BestEffort (gets_of graph n o) ≡ Some p → SentTo n past (key_of p, p.body)
 got_sent graph past r n None p run step is got = cc
 got_sent graph past r n (Some q) p run step is got =
     let b = brings graph n q p got in
@@ -72,20 +73,15 @@ got_sent graph past r n (Some q) p run step is got =
 
 -- what holds of all held and of the new message, holds of all held after it
 held_more : (P : Key × List ℕ → Type 0) (f : Option Fate) (o : Option Packet) (ms : Messages) → All P ms → ((p : Packet) → o ≡ Some p → P (key_of p, p.body)) → All P (with_held f o ms)
-held_more P None o ms all new = all
-held_more P (Some Held) None ms all new = all
 held_more P (Some Held) (Some p) ms all new = insert_all P (key_of p) p.body ms (new p refl) all
-held_more P (Some Repeat) o ms all new = all
-held_more P (Some (Late b)) o ms all new = all
-held_more P (Some (Discarded t)) o ms all new = all
-held_more P (Some Recalled) o ms all new = all
+held_more P _ _ ms all new = all
 
 -- what a node holds in a record of its own was sent before that record
 held_sent_now : (graph : Graph) (past : List Record) (r : Record) (n : ℕ) → IsHistory graph past → IsStep graph past r
     → All (SentTo n past) (held BestEffort graph n (own graph n past)) → All (SentTo n past) (held BestEffort graph n (r ∷ own graph n past))
 held_sent_now graph past r n run step before =
     let o : List Record = own graph n past in
-    held_more (SentTo n past) (fate_of (barrier_at (plane_of BestEffort) graph n o) (held BestEffort graph n o) (got BestEffort graph n o r))
+    held_more (SentTo n past) (fate_for (barrier_at (plane_of BestEffort) graph n o) (held BestEffort graph n o) (got BestEffort graph n o r))
     (got BestEffort graph n o r) (held BestEffort graph n o) before (λ p is. got_sent graph past r n (received o r) p run step refl is)
 
 later : (n : ℕ) (past : List Record) (r : Record) (ms : Messages) → All (SentTo n past) ms → All (SentTo n (r ∷ past)) ms

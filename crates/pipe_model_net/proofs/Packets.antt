@@ -1,19 +1,20 @@
 -- The principle of packets: what stays true along a run, and holds of each packet as it is put, holds of each that waits.
-use Rattle.std.proofs.Common.{◌≡◌, ℕ, ◌==◌, ◌&&◌, not, if◌then◌else◌, Bool, true, false, List, [], ◌∷◌, Option, None, Some, take, drop, refl, sym, subst, ◌∙◌, zero, suc}
+use Rattle.std.proofs.Common.{◌≡◌, ℕ, ◌==◌, ◌&&◌, not, if◌then◌else◌, Bool, true, false, List, [], ◌∷◌, ◌++◌, Option, None, Some, take, drop, refl, sym, subst, ◌∙◌, zero, suc}
 use Rattle.std.specs.List.{All, remove, slice_get}
 use Rattle.std.proofs.lemmas.List.Elements.{All-nil, All-cons, All-head, All-tail, All-append, All-take, All-drop, All-weaker}
+use Rattle.pipe_base.specs.declared.control.Addressed.{Addressed}
 use Rattle.pipe_base.specs.declared.name.LinkId.{LinkId}
 use Rattle.pipe_base.specs.declared.packet.Packet.{Packet}
 use Rattle.pipe_base.specs.declared.step.Outcome.{Outcome}
 use Rattle.pipe_base.specs.Graph.{Graph}
 use Rattle.pipe_model.specs.declared.event.Event.{Event}
-use Rattle.pipe_model.specs.declared.event.Event.TheVariants.{Send, Tick, Take, Lose, ControlTake, ControlLose, Decide, Crash, Cut}
+use Rattle.pipe_model.specs.declared.event.Event.TheVariants.{Take, Lose, ControlTake}
 use Rattle.pipe_model.specs.declared.record.Record.{Record}
-use Rattle.pipe_model.specs.declared.record.Took.TheVariants.{Link}
+use Rattle.pipe_model.specs.declared.record.Took.TheVariants.{Nothing, Link}
 use Rattle.pipe_model.specs.Acting.{is_idle}
-use Rattle.pipe_model.specs.Outcome.{took_of, took_at}
+use Rattle.pipe_model.specs.Outcome.{item_at, outcome_of, took_at, took_message}
 use Rattle.pipe_model.specs.Run.{IsHistory, IsStep}
-use Rattle.pipe_model.specs.Waiting.{left_after, put_on, waiting_on}
+use Rattle.pipe_model.specs.Waiting.{is_cut, is_ok, left_after, put_on, waiting_on, waiting_control}
 
 removed : (P : Packet → Type 0) (ps : List Packet) (place : ℕ) → All P ps → All P (remove ps place)
 removed P ps place all = All-append P (take place ps) (drop (suc place) ps) (All-take P place ps all) (All-drop P (suc place) ps all)
@@ -24,15 +25,9 @@ chosen false P ps qs all other = other
 
 -- an event only takes from what waits
 pub left_all : (P : Packet → Type 0) (link : ℕ) (event : Event) (outcome : Outcome) (ps : List Packet) → All P ps → All P (left_after link event outcome ps)
-left_all P link (Send host service now dests) outcome ps all = all
-left_all P link (Tick node now) outcome ps all = all
 left_all P link (Take l place keep) outcome ps all = chosen ((l.0 == link) && (not keep && not (is_idle outcome))) P (remove ps place) ps (removed P ps place all) all
-left_all P link (Lose l place) outcome ps all = chosen ((l.0 == link) && not (is_idle outcome)) P (remove ps place) ps (removed P ps place all) all
-left_all P link (ControlTake place keep) outcome ps all = all
-left_all P link (ControlLose place) outcome ps all = all
-left_all P link Decide outcome ps all = all
-left_all P link (Crash node) outcome ps all = all
-left_all P link (Cut l) outcome ps all = all
+left_all P link (Lose l place) outcome ps all = chosen ((l.0 == link) && is_ok outcome) P (remove ps place) ps (removed P ps place all) all
+left_all P link _ outcome ps all = all
 
 chosen_put : (b : Bool) (P : Packet → Type 0) (p : Packet) (ps : List Packet) → P p → All P ps → All P (if b then p ∷ ps else ps)
 chosen_put true P p ps here all = All-cons P p ps here all
@@ -57,19 +52,21 @@ found past r link l place None p is took = cc
 found past r link l place (Some q) p is took =
     let same : q ≡ p = cc in record { link = link.0; place = place; waited = rw is (rw same refl) }
 
-took_by : (past : List Record) (r : Record) (event : Event) (l : LinkId) (p : Packet) → took_of past event ≡ Link l p → TookWaited past r p
-took_by past r (Send host service now dests) l p took = cc
-took_by past r (Tick node now) l p took = cc
-took_by past r (Take link place keep) l p took = found past r link l place (slice_get (waiting_on link.0 past) place) p refl took
-took_by past r (Lose link place) l p took = cc
-took_by past r (ControlTake place keep) l p took = cc
-took_by past r (ControlLose place) l p took = cc
-took_by past r Decide l p took = cc
-took_by past r (Crash node) l p took = cc
-took_by past r (Cut link) l p took = cc
+no_message : (past : List Record) (r : Record) (l : LinkId) (o : Option Addressed) (p : Packet) → took_message o ≡ Link l p → TookWaited past r p
+no_message past r l None p took = cc
+no_message past r l (Some a) p took = cc
+
+item_by : (past : List Record) (r : Record) (event : Event) (l : LinkId) (p : Packet) → item_at past event ≡ Link l p → TookWaited past r p
+item_by past r (Take link place keep) l p took = found past r link l place (slice_get (waiting_on link.0 past) place) p refl took
+item_by past r (ControlTake place keep) l p took = no_message past r l (slice_get (waiting_control past) place) p took
+item_by past r _ l p took = cc
+
+took_by : (idle : Bool) (past : List Record) (r : Record) (event : Event) (l : LinkId) (p : Packet) → (if idle then Nothing else item_at past event) ≡ Link l p → TookWaited past r p
+took_by true past r event l p took = cc
+took_by false past r event l p took = item_by past r event l p took
 
 pub took_waited : (graph : Graph) (past : List Record) (r : Record) (l : LinkId) (p : Packet) → IsStep graph past r → r.took ≡ Link l p → TookWaited past r p
-took_waited graph past r l p step took = took_by past r r.event l p (sym step.took_is ∙ took)
+took_waited graph past r l p step took = took_by (is_idle (outcome_of graph past r.event)) past r r.event l p (sym step.took_is ∙ took)
 
 -- at a place where something waits, what holds of all holds of it
 pub at_place : (P : Packet → Type 0) (ps : List Packet) (place : ℕ) (p : Packet) → All P ps → slice_get ps place ≡ Some p → P p
@@ -93,7 +90,8 @@ pub packets_keep : (graph : Graph) (Q : List Record → Packet → Type 0) → I
 packets_keep graph Q kept [] run link = All-nil (Q [])
 packets_keep graph Q kept (r ∷ past) run link =
     let before : (k : ℕ) → All (Q past) (waiting_on k past) = packets_keep graph Q kept past run.0 in
-    All-append (Q (r ∷ past)) (left_after link r.event r.step.outcome (waiting_on link past)) (put_on link r.step.put)
+    chosen (is_cut link (r ∷ past)) (Q (r ∷ past)) [] (left_after link r.event r.step.outcome (waiting_on link past) ++ put_on link r.step.put) (All-nil (Q (r ∷ past)))
+    (All-append (Q (r ∷ past)) (left_after link r.event r.step.outcome (waiting_on link past)) (put_on link r.step.put)
     (left_all (Q (r ∷ past)) link r.event r.step.outcome (waiting_on link past)
     (All-weaker (Q past) (Q (r ∷ past)) (λ p. kept.stays past r p) (waiting_on link past) (before link)))
-    (put_all (Q (r ∷ past)) link r.step.put (kept.starts past r run.1 (λ l p took. taken_keeps graph Q past r l p run.1 before took)))
+    (put_all (Q (r ∷ past)) link r.step.put (kept.starts past r run.1 (λ l p took. taken_keeps graph Q past r l p run.1 before took))))

@@ -1,5 +1,5 @@
 -- Each best-effort packet that waits has a send: by its sender, under its timestamp, that lists its receiver with its body.
-use Rattle.std.proofs.Common.{◌≡◌, ℕ, ◌==◌, ◌&&◌, not, nat_le, if◌then◌else◌, Bool, true, false, List, [], ◌∷◌, Option, None, Some, filter, refl, inl, inr, sym, subst, ap, ◌∙◌, arith}
+use Rattle.std.proofs.Common.{◌≡◌, ℕ, ◌==◌, ◌&&◌, not, if◌then◌else◌, Bool, true, false, List, [], ◌∷◌, Option, None, Some, filter, refl, inl, inr, sym, subst, ap, ◌∙◌}
 use Rattle.std.specs.List.{All, Contains}
 use Rattle.std.proofs.lemmas.List.Elements.{All-nil, All-cons, All-append, All-map, All-contains_itself, All-weaker, All-head, All-tail}
 use Rattle.pipe_base.specs.declared.name.HostId.{HostId}
@@ -10,27 +10,29 @@ use Rattle.pipe_base.specs.declared.message.Service.{Service}
 use Rattle.pipe_base.specs.declared.message.Service.TheVariants.{BestEffort, Reliable}
 use Rattle.pipe_base.specs.declared.packet.Packet.{Packet}
 use Rattle.pipe_base.specs.declared.packet.PacketKind.TheVariants.{Plain}
+use Rattle.pipe_base.specs.declared.step.Outcome.{Outcome}
 use Rattle.pipe_base.specs.declared.step.Outcome.TheVariants.{Ok}
+use Rattle.pipe_base.specs.Clock.{stamp_at}
 use Rattle.pipe_base.specs.Graph.{Graph, is_half, outs_of}
 use Rattle.pipe_base.specs.Messages.{entry_of}
 use Rattle.pipe_base.specs.Moment.{Moment, is_up}
-use Rattle.pipe_base.specs.ShortestRoute.{route}
+use Rattle.pipe_base.specs.ShortestRoute.{not_dropped, route}
 use Rattle.pipe_model.specs.declared.event.Event.{Event}
-use Rattle.pipe_model.specs.declared.event.Event.TheVariants.{Send, Tick, Take, Lose, ControlTake, ControlLose, Decide, Crash, Cut}
+use Rattle.pipe_model.specs.declared.event.Event.TheVariants.{Send, Tick, Take}
 use Rattle.pipe_model.specs.declared.record.Record.{Record}
 use Rattle.pipe_model.specs.declared.record.Took.{Took}
-use Rattle.pipe_model.specs.declared.record.Took.TheVariants.{Nothing, Link, Message}
-use Rattle.pipe_model.specs.Acting.{acts, is_idle, is_own, own}
-use Rattle.pipe_model.specs.Clock.{next, stamped, stamp_of, stamp_at, last_stamp, send_outcome}
-use Rattle.pipe_model.specs.Duties.{Fields, fields, message_to, forwarded, beacon, is_beacon, owed_by_send, owed_by_take, owed_of, owed, has_link, beacons_of, beacons, on_way, routed}
+use Rattle.pipe_model.specs.declared.record.Took.TheVariants.{Link}
+use Rattle.pipe_model.specs.Acting.{is_own, own}
+use Rattle.pipe_model.specs.Clock.{next}
+use Rattle.pipe_model.specs.Duties.{Fields, fields, message_to, forwarded, beacon, owed_by_send, owed_by_take, owed_of, owed, beacons_of, beacons, on_way, routed}
 use Rattle.pipe_model.specs.Event.{IsBuilt}
-use Rattle.pipe_model.specs.Fate.{key_of}
+use Rattle.pipe_model.specs.Got.{is_beacon, key_of}
 use Rattle.pipe_model.specs.Moments.{received, received_of, taken_from, moments_of, known_drops}
 use Rattle.pipe_model.specs.Order.{IsSendTo, WasSent}
-use Rattle.pipe_model.specs.Outcome.{outcome_of}
+use Rattle.pipe_model.specs.OwnOutcome.{own_outcome, send_outcome, stamped, where_ok}
 use Rattle.pipe_model.specs.Run.{IsHistory, IsStep}
 use Rattle.pipe_model.specs.Waiting.{waiting_on}
-use Rattle.pipe_model_net.proofs.Acting.{quiet_or_own, quiet_puts}
+use Rattle.pipe_model_net.proofs.Acting.{nobodys_or_own, quiet_puts}
 use Rattle.pipe_model_net.proofs.Packets.{packets_keep}
 
 -- the entry that the message of a packet becomes
@@ -47,21 +49,13 @@ chosen true n p q is = cc
 chosen false n p q is = cc
 
 from_link : (past : List Moment) (link : ℕ) (took : Took) (q : ℕ × Packet) → taken_from past link took ≡ Some q → (l : LinkId) × (took ≡ Link l q.1)
-from_link past link Nothing q is = cc
 from_link past link (Link l p) q is =
     let same : p ≡ q.1 = chosen ((l.0 == link) && is_up past link) link p q is in (l, ap (λ (x : Packet). Link l x) same)
-from_link past link (Message a) q is = cc
+from_link past link _ q is = cc
 
 pub received_took : (past : List Moment) (event : Event) (took : Took) (q : ℕ × Packet) → received_of past event took ≡ Some q → (l : LinkId) × (took ≡ Link l q.1)
-received_took past (Send host service now dests) took q is = cc
-received_took past (Tick node now) took q is = cc
 received_took past (Take link place keep) took q is = from_link past link.0 took q is
-received_took past (Lose link place) took q is = cc
-received_took past (ControlTake place keep) took q is = cc
-received_took past (ControlLose place) took q is = cc
-received_took past Decide took q is = cc
-received_took past (Crash node) took q is = cc
-received_took past (Cut link) took q is = cc
+received_took past _ took q is = cc
 
 -- what holds of the owed packets holds of those that have a way
 on_way_all : (P : Packet → Type 0) (o : Option LinkId) (p : Packet) (puts : List (LinkId × Packet)) → P p → All (λ q. P q.1) puts → All (λ q. P q.1) (on_way o p puts)
@@ -80,43 +74,24 @@ beacon_sent past f plain = cc
 
 beacons_all : (past : List Record) (graph : Graph) (node : ℕ) (dropped : List LinkId) (f : Fields) (event : Event)
     → All (λ q. IsSent past q.1) (beacons_of graph node dropped f event)
-beacons_all past graph node dropped f (Send host service now dests) = All-nil (λ (q : LinkId × Packet). IsSent past q.1)
 beacons_all past graph node dropped f (Tick n now) =
-    let links : List LinkId = filter (λ l. not (has_link dropped l)) (outs_of graph node) in
+    let links : List LinkId = filter (λ l. not_dropped dropped l.0) (outs_of graph node) in
     All-map (λ (q : LinkId × Packet). IsSent past q.1) (λ (l : LinkId). (l, beacon f)) links (λ k d lt. beacon_sent past f)
-beacons_all past graph node dropped f (Take link place keep) = All-nil (λ (q : LinkId × Packet). IsSent past q.1)
-beacons_all past graph node dropped f (Lose link place) = All-nil (λ (q : LinkId × Packet). IsSent past q.1)
-beacons_all past graph node dropped f (ControlTake place keep) = All-nil (λ (q : LinkId × Packet). IsSent past q.1)
-beacons_all past graph node dropped f (ControlLose place) = All-nil (λ (q : LinkId × Packet). IsSent past q.1)
-beacons_all past graph node dropped f Decide = All-nil (λ (q : LinkId × Packet). IsSent past q.1)
-beacons_all past graph node dropped f (Crash n) = All-nil (λ (q : LinkId × Packet). IsSent past q.1)
-beacons_all past graph node dropped f (Cut link) = All-nil (λ (q : LinkId × Packet). IsSent past q.1)
+beacons_all past graph node dropped f _ = All-nil (λ (q : LinkId × Packet). IsSent past q.1)
+
+ok_where : (o : Outcome) (stamp : ℕ) (ts : Ts) → where_ok o stamp ≡ Some ts → o ≡ Ok
+ok_where Ok stamp ts is = refl
+ok_where _ stamp ts is = cc
 
 -- a send that stamps is accepted
-accepted_at : (b : Bool) (now next : ℕ) (ts : Ts) → nat_le (stamp_at now next) last_stamp ≡ b → stamp_of now next ≡ Some ts → send_outcome now next ≡ Ok
-accepted_at true now next ts is stamp = rw is refl
-accepted_at false now next ts is stamp = let none : stamp_of now next ≡ None = rw is refl in cc
-
-pub same_number : (a b : ℕ) → (a == b) ≡ true → a ≡ b
-same_number a b is = grind (arith, is)
-
-both : (a b : Bool) → (a && b) ≡ true → a ≡ true
-both true b is = refl
-both false b is = is
-
-acts_of : (graph : Graph) (n : ℕ) (r : Record) → is_own graph n r ≡ true → acts graph n r.event r.took ≡ true
-acts_of graph n r is = both (acts graph n r.event r.took) (not (is_idle r.step.outcome)) is
-
 send_accepted : (graph : Graph) (past : List Record) (r : Record) (n : ℕ) (host : HostId) (service : Service) (now : Ts) (dests : List (HostId × List ℕ)) (ts : Ts)
     → IsStep graph past r → is_own graph n r ≡ true → r.event ≡ Send host service now dests → r.step.stamped ≡ Some ts → r.step.outcome ≡ Ok
 send_accepted graph past r n host service now dests ts step mine event stamp =
-    let act : acts graph n (Send host service now dests) r.took ≡ true = subst (λ (e : Event). acts graph n e r.took ≡ true) event (acts_of graph n r mine) in
-    let who : host.0 ≡ n = same_number host.0 n act in
-    let stamps : r.step.stamped ≡ stamp_of now.0 (next (own graph n past)) = (step.node n mine).stamped_is ∙ ap (λ (e : Event). stamped (own graph n past) e) event in
-    let at_host : stamp_of now.0 (next (own graph host.0 past)) ≡ Some ts =
-    ap (λ (m : ℕ). stamp_of now.0 (next (own graph m past))) who ∙ sym stamps ∙ stamp in
-    step.outcome_is ∙ ap (λ (e : Event). outcome_of graph past e) event
-    ∙ accepted_at (nat_le (stamp_at now.0 (next (own graph host.0 past))) last_stamp) now.0 (next (own graph host.0 past)) ts refl at_host
+    let o : List Record = own graph n past in
+    let stamps : where_ok (send_outcome now.0 (next o)) (stamp_at now.0 (next o)) ≡ Some ts =
+    sym (ap (λ (e : Event). stamped graph n o e) event) ∙ sym (step.node n mine).stamped_is ∙ stamp in
+    (step.node n mine).outcome_is ∙ ap (λ (e : Event). own_outcome graph n o e) event
+    ∙ ok_where (send_outcome now.0 (next o)) (stamp_at now.0 (next o)) ts stamps
 
 -- the messages of an accepted send were sent by it
 sent_by : (graph : Graph) (past : List Record) (r : Record) (n : ℕ) (f : Fields) (host : HostId) (now : Ts) (dests : List (HostId × List ℕ)) (stamp : Option Ts)
@@ -153,14 +128,8 @@ owed_all : (graph : Graph) (past : List Record) (r : Record) (n : ℕ) (f : Fiel
     → All (IsSent (r ∷ past)) (owed_of graph n f event r.step.stamped (received (own graph n past) r))
 owed_all graph past r n f (Send host BestEffort now dests) step mine event sent = sent_by graph past r n f host now dests r.step.stamped step mine event refl
 owed_all graph past r n f (Send host Reliable now dests) step mine event sent = absurd (subst IsBuilt event step.built)
-owed_all graph past r n f (Tick node now) step mine event sent = All-nil (IsSent (r ∷ past))
 owed_all graph past r n f (Take link place keep) step mine event sent = taken_on graph past r n f (received (own graph n past) r) refl sent
-owed_all graph past r n f (Lose link place) step mine event sent = All-nil (IsSent (r ∷ past))
-owed_all graph past r n f (ControlTake place keep) step mine event sent = All-nil (IsSent (r ∷ past))
-owed_all graph past r n f (ControlLose place) step mine event sent = All-nil (IsSent (r ∷ past))
-owed_all graph past r n f Decide step mine event sent = All-nil (IsSent (r ∷ past))
-owed_all graph past r n f (Crash node) step mine event sent = All-nil (IsSent (r ∷ past))
-owed_all graph past r n f (Cut link) step mine event sent = All-nil (IsSent (r ∷ past))
+owed_all graph past r n f _ step mine event sent = All-nil (IsSent (r ∷ past))
 
 puts_of_own : (graph : Graph) (past : List Record) (r : Record) (n : ℕ) → IsStep graph past r → is_own graph n r ≡ true
     → ((l : LinkId) (p : Packet) → r.took ≡ Link l p → IsSent past p) → All (λ q. IsSent (r ∷ past) q.1) r.step.put
@@ -175,7 +144,7 @@ puts_of_own graph past r n step mine sent =
 puts_sent : (graph : Graph) (past : List Record) (r : Record) → IsStep graph past r
     → ((l : LinkId) (p : Packet) → r.took ≡ Link l p → IsSent past p) → All (λ q. IsSent (r ∷ past) q.1) r.step.put
 puts_sent graph past r step sent =
-    elim (quiet_or_own graph past r step) [
+    elim (nobodys_or_own graph r) [
       | inl quiet ↦ subst (λ (puts : List (LinkId × Packet)). All (λ (q : LinkId × Packet). IsSent (r ∷ past) q.1) puts)
           (sym (quiet_puts graph past r step quiet)) (All-nil (λ (q : LinkId × Packet). IsSent (r ∷ past) q.1))
       | inr own_of ↦ puts_of_own graph past r own_of.0 step own_of.1 sent

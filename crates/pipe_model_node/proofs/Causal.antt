@@ -1,15 +1,19 @@
 -- A node's next timestamp is above all that it logged, and its stamps are not below it.
-use Rattle.std.proofs.Common.{◌≡◌, ℕ, ◌<◌, ◌≤◌, nat_le, Bool, true, false, List, [], ◌∷◌, Option, None, Some, IfSome, refl, arith, sym, ◌∙◌, ap}
+use Rattle.std.proofs.Common.{◌≡◌, ℕ, ◌<◌, ◌≤◌, List, [], ◌∷◌, Option, None, Some, IfSome, refl, arith, sym, ◌∙◌, ap}
 use Rattle.std.specs.List.{All}
 use Rattle.std.proofs.lemmas.List.Elements.{All-nil, All-cons, All-append, All-weaker}
 use Rattle.pipe_base.specs.declared.message.Entry.{Entry}
 use Rattle.pipe_base.specs.declared.message.Service.{Service}
 use Rattle.pipe_base.specs.declared.name.Ts.{Ts}
+use Rattle.pipe_base.specs.declared.step.Outcome.{Outcome}
+use Rattle.pipe_base.specs.declared.step.Outcome.TheVariants.{Ok}
+use Rattle.pipe_base.specs.Clock.{after_logged, stamp_at}
 use Rattle.pipe_base.specs.Graph.{Graph}
 use Rattle.pipe_model.specs.declared.event.Event.{Event}
-use Rattle.pipe_model.specs.declared.event.Event.TheVariants.{Send, Tick, Take, Lose, ControlTake, ControlLose, Decide, Crash, Cut}
+use Rattle.pipe_model.specs.declared.event.Event.TheVariants.{Send}
 use Rattle.pipe_model.specs.declared.record.Record.{Record}
-use Rattle.pipe_model.specs.Clock.{after_logged, next, stamp_at, last_stamp, stamp_of, stamped}
+use Rattle.pipe_model.specs.Clock.{next}
+use Rattle.pipe_model.specs.OwnOutcome.{send_outcome, stamped, where_ok}
 use Rattle.pipe_model.specs.Logged.{log, entries_of}
 use Rattle.pipe_model.specs.Order.{IsAboveLogs, IsCausal}
 use Rattle.pipe_model.specs.Run.{IsNodeHistory}
@@ -38,24 +42,15 @@ log_below_next service (r ∷ own) =
     (All-weaker (Below (after_logged r.step.logged)) (Below (next (r ∷ own))) now (entries_of service r.step.logged)
     (entries_all (Below (after_logged r.step.logged)) service r.step.logged (logged_below r.step.logged)))
 
--- a stamp is not below the next timestamp
-stamp_by : (b : Bool) (now next : ℕ) (ts : Ts) → nat_le (stamp_at now next) last_stamp ≡ b → stamp_of now next ≡ Some ts → next ≤ ts.0
-stamp_by true now next ts is stamp =
-    let here : stamp_of now next ≡ Some (record { 0 = stamp_at now next }) = rw is refl in
-    let same : ts ≡ record { 0 = stamp_at now next } = cc in
-    let number : ts.0 ≡ stamp_at now next = ap (λ (t : Ts). t.0) same in omega arith
-stamp_by false now next ts is stamp = let none : stamp_of now next ≡ None = rw is refl in cc
+stamp_where : (o : Outcome) (stamp : ℕ) (ts : Ts) → where_ok o stamp ≡ Some ts → stamp ≡ ts.0
+stamp_where Ok stamp ts is = cc
+stamp_where _ stamp ts is = cc
 
-stamp_above : (own : List Record) (event : Event) (ts : Ts) → stamped own event ≡ Some ts → next own ≤ ts.0
-stamp_above own (Send host service now dests) ts is = stamp_by (nat_le (stamp_at now.0 (next own)) last_stamp) now.0 (next own) ts refl is
-stamp_above own (Tick node now) ts is = cc
-stamp_above own (Take link place keep) ts is = cc
-stamp_above own (Lose link place) ts is = cc
-stamp_above own (ControlTake place keep) ts is = cc
-stamp_above own (ControlLose place) ts is = cc
-stamp_above own Decide ts is = cc
-stamp_above own (Crash node) ts is = cc
-stamp_above own (Cut link) ts is = cc
+-- a stamp is not below the next timestamp
+stamp_above : (graph : Graph) (node : ℕ) (own : List Record) (event : Event) (ts : Ts) → stamped graph node own event ≡ Some ts → next own ≤ ts.0
+stamp_above graph node own (Send host service now dests) ts is =
+    let same : stamp_at now.0 (next own) ≡ ts.0 = stamp_where (send_outcome now.0 (next own)) (stamp_at now.0 (next own)) ts is in omega arith
+stamp_above graph node own _ ts is = cc
 
 above_logs : (own : List Record) (o : Option Ts) → ((ts : Ts) → o ≡ Some ts → next own ≤ ts.0) → IfSome o (λ ts. IsAboveLogs ts.0 own)
 above_logs own None above = tt
@@ -66,4 +61,4 @@ above_logs own (Some ts) above = λ service.
 pub node_causal : (graph : Graph) (node : ℕ) (own : List Record) → IsNodeHistory graph node own → IsCausal own
 node_causal graph node [] history = tt
 node_causal graph node (r ∷ own) history =
-    (node_causal graph node own history.0, above_logs own r.step.stamped (λ ts is. stamp_above own r.event ts (sym history.1.stamped_is ∙ is)))
+    (node_causal graph node own history.0, above_logs own r.step.stamped (λ ts is. stamp_above graph node own r.event ts (sym history.1.stamped_is ∙ is)))

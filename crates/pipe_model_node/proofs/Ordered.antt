@@ -9,12 +9,13 @@ use Rattle.pipe_base.specs.declared.message.Service.{Service}
 use Rattle.pipe_base.specs.declared.message.Service.TheVariants.{BestEffort, Reliable}
 use Rattle.pipe_base.specs.declared.packet.Packet.{Packet}
 use Rattle.pipe_base.specs.declared.step.Fate.{Fate}
-use Rattle.pipe_base.specs.declared.step.Fate.TheVariants.{Held, Repeat, Late, Discarded, Recalled}
+use Rattle.pipe_base.specs.declared.step.Fate.TheVariants.{Held}
 use Rattle.pipe_base.specs.Graph.{Graph}
 use Rattle.pipe_base.specs.Messages.{Messages, Before, IsInOrder, entry_of, from_barrier, below_barrier}
 use Rattle.pipe_base.proofs.KeyOrder.{order_with, order_filter}
 use Rattle.pipe_model.specs.declared.record.Record.{Record}
-use Rattle.pipe_model.specs.Fate.{key_of, plane_of, got, fate_of, with_held, held}
+use Rattle.pipe_model.specs.Fate.{plane_of, fate_for, with_held, held}
+use Rattle.pipe_model.specs.Got.{key_of, got}
 use Rattle.pipe_model.specs.Logged.{passed_in, log, entries_of}
 use Rattle.pipe_model.specs.Moments.{barrier_at}
 use Rattle.pipe_model.specs.Order.{IsRising}
@@ -42,18 +43,13 @@ rising_entries (m ∷ ms) order =
 
 -- what a host holds is in order
 order_more : (f : Option Fate) (o : Option Packet) (ms : Messages) → IsInOrder ms → IsInOrder (with_held f o ms)
-order_more None o ms order = order
-order_more (Some Held) None ms order = order
 order_more (Some Held) (Some p) ms order = order_with (key_of p) p.body ms order
-order_more (Some Repeat) o ms order = order
-order_more (Some (Late b)) o ms order = order
-order_more (Some (Discarded t)) o ms order = order
-order_more (Some Recalled) o ms order = order
+order_more _ _ ms order = order
 
 pub held_in_order : (service : Service) (graph : Graph) (node : ℕ) (own : List Record) → IsInOrder (held service graph node own)
 held_in_order service graph node [] = tt
 held_in_order service graph node (r ∷ own) =
-    order_more (fate_of (barrier_at (plane_of service) graph node own) (held service graph node own) (got service graph node own r))
+    order_more (fate_for (barrier_at (plane_of service) graph node own) (held service graph node own) (got service graph node own r))
     (got service graph node own r) (held service graph node own) (held_in_order service graph node own)
 
 -- what a record passes of a service: in order, from the barrier before on, and below the barrier after

@@ -1,13 +1,13 @@
 -- What a buffer of held messages is seen as.
-use Rattle.std.specs.Prelude.{◌≡◌, ℕ, nat_lt, if◌then◌else◌, List, [], ◌++◌}
+use Rattle.std.specs.Prelude.{◌≡◌, ℕ, List, [], ◌++◌}
 use Rattle.pipe_base.specs.declared.message.Entry.{Entry}
 use Rattle.pipe_base.specs.declared.message.Message.{Message}
 use Rattle.pipe_base.specs.declared.message.Service.{Service}
 use Rattle.pipe_base.specs.declared.name.Ts.{Ts}
 use Rattle.pipe_base.specs.declared.message.Key.{Key}
 use Rattle.pipe_base.specs.declared.step.Fate.{Fate}
-use Rattle.pipe_base.specs.declared.step.Fate.TheVariants.{Held, Repeat, Late, Discarded, Recalled}
-use Rattle.pipe_base.specs.Messages.{Messages, with_message, without_message, has_key, from_barrier, below_barrier, logged_of}
+use Rattle.pipe_base.specs.declared.step.Fate.TheVariants.{Held}
+use Rattle.pipe_base.specs.Messages.{Messages, with_message, without_message, from_barrier, below_barrier, logged_of}
 
 -- the messages of one service that are held, and the barrier that was passed last
 pub record Buffer : Type 0 where
@@ -40,18 +40,10 @@ passed_by barrier b = logged_of b.service (below_barrier barrier b.messages)
 abbrev pub left_by : ℕ → Buffer → Buffer
 left_by barrier b = record b { barrier = barrier; messages = from_barrier barrier b.messages }
 
--- late where the barrier has passed it, a repeat where a message with its key is held, held otherwise
-abbrev pub placed_fate : Key → Buffer → Fate
-placed_fate key b =
-    if nat_lt key.ts.0 b.barrier then Late (record { 0 = b.barrier }) else if has_key key b.messages then Repeat else Held
-
 -- a message with the fate held joins the others
 abbrev pub with_placed : Fate → Key → List ℕ → Buffer → Buffer
 with_placed Held key body b = buffer_with key body b
-with_placed Repeat key body b = b
-with_placed (Late barrier) key body b = b
-with_placed (Discarded time) key body b = b
-with_placed Recalled key body b = b
+with_placed _ key body b = b
 
 -- the log grew by some first ones of the entries
 abbrev pub AppendsSome : List (Service × Entry) → List (Service × Entry) → List (Service × Entry) → Type 0

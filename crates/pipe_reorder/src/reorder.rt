@@ -2,7 +2,8 @@
 ghost use Rattle.std.specs.Prelude.{◌≡◌, ◌++◌, ℕ, List, length, false, IfOk, OnOk, OnErr};
 ghost use Rattle.pipe_base.specs.Messages.{IsInOrder, has_key, from_barrier, below_barrier, logged_of, AreBelow};
 ghost use Rattle.pipe_reorder.specs.Buffer.{Buffer, empty_buffer, buffer_with, buffer_without, passed_by, left_by};
-ghost use Rattle.pipe_reorder.specs.Buffer.{message_key, placed_fate, with_placed, AppendsSome};
+ghost use Rattle.pipe_base.specs.Fate.{fate_of};
+ghost use Rattle.pipe_reorder.specs.Buffer.{message_key, with_placed, AppendsSome};
 
 use pipe_base::{Body, Entry, Fate, Key, LoggedList, Message, NoMemory, Service, Ts};
 use std::alloc::Global;
@@ -82,9 +83,24 @@ impl Reorder {
         let _ = self.held.remove(&key);
     }
 
+    /// What becomes of a message of this service with this key that comes now.
+    pub fn fate(&self, key: Key) -> Fate
+        ensures { result ≡ fate_of self.now.barrier self.now.messages key }
+    {
+        if key.ts.0 < self.barrier.0 {
+            Fate::Late {
+                barrier: self.barrier,
+            }
+        } else if self.holds(key) {
+            Fate::Repeat
+        } else {
+            Fate::Held
+        }
+    }
+
     /// Gives a message of this service its fate, and holds it where that is `Held`.
     pub fn place(&mut self, message: Message) -> Result<Fate, NoMemory>
-        ensures fate { IfOk result (λ fate. fate ≡ placed_fate (message_key message) self.old) }
+        ensures fate { IfOk result (λ fate. fate ≡ fate_of self.old.barrier self.old.messages (message_key message)) }
         ensures held { IfOk result (λ fate. self.new ≡ with_placed fate (message_key message) message.body self.old) }
         ensures err { OnErr result (self.new ≡ self.old) }
     {
@@ -92,16 +108,11 @@ impl Reorder {
             ts: message.ts,
             src: message.src,
         };
-        if key.ts.0 < self.barrier.0 {
-            return Ok(Fate::Late {
-                barrier: self.barrier,
-            });
+        let fate = self.fate(key);
+        if let Fate::Held = fate {
+            self.hold(key, message.body)?;
         }
-        if self.holds(key) {
-            return Ok(Fate::Repeat);
-        }
-        self.hold(key, message.body)?;
-        Ok(Fate::Held)
+        Ok(fate)
     }
 
     /// Appends the held messages below the barrier, in the total order. After `NoMemory` some

@@ -1,5 +1,5 @@
 -- A step puts few items.
-use Rattle.std.proofs.Common.{ℕ, ◌+◌, ◌≤◌, ◌==◌, Bool, true, false, not, if◌then◌else◌, List, [], ◌∷◌, length, map, filter, Option, None, Some, ap, arith, length-append}
+use Rattle.std.proofs.Common.{ℕ, ◌+◌, ◌≤◌, ◌==◌, Bool, true, false, if◌then◌else◌, List, [], ◌∷◌, length, map, filter, Option, None, Some, ap, arith, length-append}
 use Rattle.std.proofs.lemmas.List.{length-map}
 use Rattle.std.proofs.lemmas.List.FromFn.{length-map-range_with_len}
 use Rattle.std.proofs.lemmas.List.Sums.{count_by-le-length, length-filter}
@@ -8,10 +8,10 @@ use Rattle.pipe_base.specs.declared.name.LinkId.{LinkId}
 use Rattle.pipe_base.specs.declared.name.Ts.{Ts}
 use Rattle.pipe_base.specs.declared.packet.Packet.{Packet}
 use Rattle.pipe_base.specs.Graph.{Graph, all_links, link_id, outs_of, tail_of}
-use Rattle.pipe_base.specs.ShortestRoute.{route}
+use Rattle.pipe_base.specs.ShortestRoute.{not_dropped, route}
 use Rattle.pipe_model.specs.declared.event.Event.{Event}
-use Rattle.pipe_model.specs.declared.event.Event.TheVariants.{Send, Tick, Take, Lose, ControlTake, ControlLose, Decide, Crash, Cut}
-use Rattle.pipe_model.specs.Duties.{Fields, beacon, beacons_of, forwarded, has_link, message_to, on_way, owed_by_send, owed_by_take, owed_of, routed}
+use Rattle.pipe_model.specs.declared.event.Event.TheVariants.{Send, Tick, Take}
+use Rattle.pipe_model.specs.Duties.{Fields, beacon, beacons_of, forwarded, message_to, on_way, owed_by_send, owed_by_take, owed_of, routed}
 use Rattle.pipe_model.specs.Event.{IsOfGraph}
 use Rattle.pipe_model.specs.Items.{items_in}
 use Rattle.pipe_world.specs.declared.node.Node.{Node}
@@ -44,40 +44,27 @@ passed_few graph node f (Some q) = one_few _ (forwarded f q.1)
 owed_few : (graph : Graph) (node : ℕ) (f : Fields) (event : Event) (stamp : Option Ts) (received : Option (ℕ × Packet)) → IsOfGraph graph event
     → length (owed_of graph node f event stamp received) ≤ 16
 owed_few graph node f (Send host service now dests) stamp received names = sent_few host f dests stamp names.receivers.few
-owed_few graph node f (Tick n now) stamp received names = omega arith
 owed_few graph node f (Take link place keep) stamp received names = passed_few graph node f received
-owed_few graph node f (Lose link place) stamp received names = omega arith
-owed_few graph node f (ControlTake place keep) stamp received names = omega arith
-owed_few graph node f (ControlLose place) stamp received names = omega arith
-owed_few graph node f Decide stamp received names = omega arith
-owed_few graph node f (Crash n) stamp received names = omega arith
-owed_few graph node f (Cut link) stamp received names = omega arith
+owed_few graph node f _ stamp received names = omega arith
 
 filter_few : (test : LinkId → Bool) (ls : List LinkId) → length (filter test ls) ≤ length ls
 filter_few test ls = omega (arith, length-filter test ls, count_by-le-length test ls)
 
 tick_few : (graph : Graph) (node : ℕ) (dropped : List LinkId) (f : Fields)
-    → length {A = LinkId × Packet} (map (λ (l : LinkId). (l, beacon f)) (filter (λ (l : LinkId). not (has_link dropped l)) (outs_of graph node))) ≤ length graph.links
+    → length {A = LinkId × Packet} (map (λ (l : LinkId). (l, beacon f)) (filter (λ (l : LinkId). not_dropped dropped l.0) (outs_of graph node))) ≤ length graph.links
 tick_few graph node dropped f =
     omega (
       arith,
-      length-map {B = LinkId × Packet} (filter (λ (l : LinkId). not (has_link dropped l)) (outs_of graph node)) (λ (l : LinkId). (l, beacon f)),
-      filter_few (λ (l : LinkId). not (has_link dropped l)) (outs_of graph node),
+      length-map {B = LinkId × Packet} (filter (λ (l : LinkId). not_dropped dropped l.0) (outs_of graph node)) (λ (l : LinkId). (l, beacon f)),
+      filter_few (λ (l : LinkId). not_dropped dropped l.0) (outs_of graph node),
       filter_few (λ (l : LinkId). tail_of graph l.0 == node) (all_links graph),
       length-map-range_with_len link_id 0 (length graph.links),
     )
 
 -- at most a beacon for each link
 beacons_few : (graph : Graph) (node : ℕ) (dropped : List LinkId) (f : Fields) (event : Event) → length (beacons_of graph node dropped f event) ≤ length graph.links
-beacons_few graph node dropped f (Send host service now dests) = omega arith
 beacons_few graph node dropped f (Tick n now) = tick_few graph node dropped f
-beacons_few graph node dropped f (Take link place keep) = omega arith
-beacons_few graph node dropped f (Lose link place) = omega arith
-beacons_few graph node dropped f (ControlTake place keep) = omega arith
-beacons_few graph node dropped f (ControlLose place) = omega arith
-beacons_few graph node dropped f Decide = omega arith
-beacons_few graph node dropped f (Crash n) = omega arith
-beacons_few graph node dropped f (Cut link) = omega arith
+beacons_few graph node dropped f _ = omega arith
 
 pub items_few : (graph : Graph) (node : ℕ) (old mid : Node) (event : Event) (w : Work) → IsOfGraph graph event → IsWork graph node old mid event w
     → items_in (record_of event w) ≤ 16 + length graph.links

@@ -11,6 +11,7 @@ use Rattle.pipe_base.specs.declared.packet.Plane.TheVariants as plane
 use Rattle.pipe_base.specs.declared.step.Fate.{Fate}
 use Rattle.pipe_base.specs.declared.step.Fate.TheVariants.{Held, Repeat, Late}
 use Rattle.pipe_base.specs.Barrier.{barrier}
+use Rattle.pipe_base.specs.Clock.{next_after}
 use Rattle.pipe_base.specs.Graph.{Graph, ins_of, is_host}
 use Rattle.pipe_base.specs.Messages.{Messages, below_barrier, from_barrier, has_key, logged_of}
 use Rattle.pipe_base.specs.Moment.{Moment, is_up}
@@ -19,13 +20,14 @@ use Rattle.pipe_barrier.specs.declared.registers.Barriers.{Barriers}
 use Rattle.pipe_barrier.specs.Registers.{AreBarriers, Kept}
 use Rattle.pipe_barrier.specs.Registers as registers
 use Rattle.pipe_model.specs.declared.event.Event.{Event}
-use Rattle.pipe_model.specs.declared.event.Event.TheVariants.{Send, Tick, Take, Lose, ControlTake, ControlLose, Decide, Crash, Cut}
+use Rattle.pipe_model.specs.declared.event.Event.TheVariants.{Take}
 use Rattle.pipe_model.specs.declared.record.Record.{Record}
 use Rattle.pipe_model.specs.declared.record.Took.{Took}
-use Rattle.pipe_model.specs.declared.record.Took.TheVariants.{Nothing, Link, Message}
-use Rattle.pipe_model.specs.Clock.{next, next_after}
+use Rattle.pipe_model.specs.declared.record.Took.TheVariants.{Link}
+use Rattle.pipe_model.specs.Clock.{next, tick_reading}
 use Rattle.pipe_model.specs.Duties.{Fields, host_be, fields, routed, lost, owed_of, beacons_of}
-use Rattle.pipe_model.specs.Fate.{fate_of, got_of, key_of, with_held, held}
+use Rattle.pipe_model.specs.Fate.{fate_for, with_held, held}
+use Rattle.pipe_model.specs.Got.{key_of}
 use Rattle.pipe_model.specs.Moments.{barrier_at, known_drops, moments_of, received, received_of, with_received}
 use Rattle.pipe_model.specs.Run.{IsNodeStep}
 use Rattle.pipe_model.proofs.Rising.{barrier_rises}
@@ -34,21 +36,12 @@ use Rattle.pipe_world.specs.declared.node.Node.{Node}
 use Rattle.pipe_world.specs.declared.work.Work.{Work}
 use Rattle.pipe_world.specs.Node.{Stands, StandsWith}
 use Rattle.pipe_world.specs.Puts.{fields_of, fields_for}
-use Rattle.pipe_world.specs.Work.{Commits, IsWork, Undoes, received_in, record_of}
+use Rattle.pipe_world.specs.Work.{Commits, IsWork, Undoes, message_in, received_in, record_of}
 
 -- where all links are up a taken packet is received
 up_received : (past : List Moment) → ((link : ℕ) → is_up past link ≡ true) → (event : Event) (took : Took) → received_of past event took ≡ received_of [] event took
-up_received past up (Send host service now dests) took = refl
-up_received past up (Tick node now) took = refl
-up_received past up (Take link place keep) Nothing = refl
 up_received past up (Take link place keep) (Link l p) = let up_here : is_up past link.0 ≡ true = up link.0 in rw up_here refl
-up_received past up (Take link place keep) (Message a) = refl
-up_received past up (Lose link place) took = refl
-up_received past up (ControlTake place keep) took = refl
-up_received past up (ControlLose place) took = refl
-up_received past up Decide took = refl
-up_received past up (Crash node) took = refl
-up_received past up (Cut link) took = refl
+up_received past up _ _ = refl
 
 -- the moments after a record that takes no link out of use
 moments_received : (own : List Record) (r : Record) (q : Option (ℕ × Packet)) → received own r ≡ q → r.step.downed ≡ [] → r.step.dropped ≡ []
@@ -65,7 +58,7 @@ late_from : (late : Bool) (b : ℕ) (ms : Messages) (p : Packet) → nat_lt p.ts
 late_from true b ms p is = refl
 late_from false b ms p is = ap (λ (h : Bool). if h then Repeat else Held) (has_from b (key_of p) ms (ltb-false p.ts.0 b is))
 
-fate_from : (b : ℕ) (ms : Messages) (m : Option Packet) → fate_of b (from_barrier b ms) m ≡ fate_of b ms m
+fate_from : (b : ℕ) (ms : Messages) (m : Option Packet) → fate_for b (from_barrier b ms) m ≡ fate_for b ms m
 fate_from b ms None = refl
 fate_from b ms (Some p) = ap (λ (f : Fate). Some f) (late_from (nat_lt p.ts.0 b) b ms p refl)
 
@@ -77,7 +70,7 @@ held_by false true b ms p is = refl
 held_by false false b ms p is = sym (from_with b (key_of p) p.body ms (ltb-false p.ts.0 b is))
 
 -- what is held from the barrier on is what was ever held, from the barrier on
-held_from : (b : ℕ) (ms : Messages) (m : Option Packet) → with_held (fate_of b ms m) m (from_barrier b ms) ≡ from_barrier b (with_held (fate_of b ms m) m ms)
+held_from : (b : ℕ) (ms : Messages) (m : Option Packet) → with_held (fate_for b ms m) m (from_barrier b ms) ≡ from_barrier b (with_held (fate_for b ms m) m ms)
 held_from b ms None = refl
 held_from b ms (Some p) = held_by (nat_lt p.ts.0 b) (has_key (key_of p) ms) b ms p refl
 
@@ -120,30 +113,31 @@ work_follows graph node own old mid event w stands work =
     let ever : Messages = held BestEffort graph node own in
     let kept_is : old.held.messages ≡ from_barrier before ever = stands.messages_are in
     let drops_are : known_drops (r ∷ own) ≡ [] = ap (λ (ds : List LinkId). ds ++ w.step.dropped) stands.no_drops ∙ work.dropped_is in
-    let clock_is : w.next.0 ≡ next (r ∷ own) = work.next_is ∙ ap (λ (n : ℕ). max n (next_after r)) stands.next_is in
+    let clock_is : w.next.0 ≡ next (r ∷ own) = work.next_is ∙ ap (λ (n : ℕ). next_after n (tick_reading event) w.step.stamped w.step.logged) stands.next_is in
     let fields_are : fields graph node own r ≡ fields_for graph node w.step.stamped w.next.0 b =
     fields_same (is_host graph node) w.step.stamped (next (r ∷ own)) w.next.0 (barrier_at plane.BestEffort graph node (r ∷ own)) (barrier_at plane.Commit graph node (r ∷ own)) b
     (sym clock_is) be_is commit_is in
-    let fate_told : w.step.fate ≡ fate_of before ever (got_of BestEffort graph node q) =
+    let fate_told : w.step.fate ≡ fate_for before ever (message_in graph node q) =
     work.fate_is
-    ∙ ap (λ (n : ℕ). fate_of n old.held.messages (got_of BestEffort graph node q)) before_is
-    ∙ ap (λ (ms : Messages). fate_of before ms (got_of BestEffort graph node q)) kept_is
-    ∙ fate_from before ever (got_of BestEffort graph node q) in
-    let held_now : mid.held.messages ≡ from_barrier before (with_held (fate_of before ever (got_of BestEffort graph node q)) (got_of BestEffort graph node q) ever) =
+    ∙ ap (λ (n : ℕ). fate_for n old.held.messages (message_in graph node q)) before_is
+    ∙ ap (λ (ms : Messages). fate_for before ms (message_in graph node q)) kept_is
+    ∙ fate_from before ever (message_in graph node q) in
+    let held_now : mid.held.messages ≡ from_barrier before (with_held (fate_for before ever (message_in graph node q)) (message_in graph node q) ever) =
     work.held_is
-    ∙ ap (λ (f : Option Fate). with_held f (got_of BestEffort graph node q) old.held.messages) fate_told
-    ∙ ap (λ (ms : Messages). with_held (fate_of before ever (got_of BestEffort graph node q)) (got_of BestEffort graph node q) ms) kept_is
-    ∙ held_from before ever (got_of BestEffort graph node q) in
+    ∙ ap (λ (f : Option Fate). with_held f (message_in graph node q) old.held.messages) fate_told
+    ∙ ap (λ (ms : Messages). with_held (fate_for before ever (message_in graph node q)) (message_in graph node q) ms) kept_is
+    ∙ held_from before ever (message_in graph node q) in
     let held_all : mid.held.messages ≡ from_barrier before (held BestEffort graph node (r ∷ own)) =
     held_now
-    ∙ ap (λ (o : Option (ℕ × Packet)). from_barrier before (with_held (fate_of before ever (got_of BestEffort graph node o)) (got_of BestEffort graph node o) ever)) (sym got_is) in
+    ∙ ap (λ (o : Option (ℕ × Packet)). from_barrier before (with_held (fate_for before ever (message_in graph node o)) (message_in graph node o) ever)) (sym got_is) in
     record {
       rules = record {
         downed_is = work.downed_is;
         dropped_is = work.dropped_is;
         noted_is = work.noted_is;
+        outcome_is = work.outcome_is own (sym stands.next_is);
         stamped_is = work.stamped_is own (sym stands.next_is);
-        fate_is = fate_told ∙ ap (λ (o : Option (ℕ × Packet)). fate_of before ever (got_of BestEffort graph node o)) (sym got_is);
+        fate_is = fate_told ∙ ap (λ (o : Option (ℕ × Packet)). fate_for before ever (message_in graph node o)) (sym got_is);
         logged_is =
             work.logged_is ever (kept_is ∙ ap (λ (n : ℕ). from_barrier n ever) (sym before_is))
             ∙ ap (λ (s : Service). logged_of s (below_barrier b.be.0 mid.held.messages)) stands.service_is

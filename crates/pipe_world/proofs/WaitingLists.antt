@@ -9,10 +9,11 @@ use Rattle.pipe_base.specs.declared.packet.Packet.{Packet}
 use Rattle.pipe_base.specs.declared.step.Outcome.{Outcome}
 use Rattle.pipe_base.specs.Graph.{Graph}
 use Rattle.pipe_model.specs.declared.event.Event.{Event}
-use Rattle.pipe_model.specs.declared.event.Event.TheVariants.{Send, Tick, Take, Lose, ControlTake, ControlLose, Decide, Crash, Cut}
+use Rattle.pipe_model.specs.declared.event.Event.TheVariants.{Take, Lose, Cut}
 use Rattle.pipe_model.specs.declared.record.Record.{Record}
 use Rattle.pipe_model.specs.Acting.{is_idle}
-use Rattle.pipe_model.specs.Waiting.{left_after, put_on}
+use Rattle.pipe_model.specs.Event.{IsBuilt}
+use Rattle.pipe_model.specs.Waiting.{is_cut, is_cut_of, is_ok, left_after, put_on, waiting_on}
 use Rattle.pipe_world.specs.Queues.{HavePut, HasLeft, IsInPlace, Waits, Stand}
 
 first_of_two : (b : Bool) (x : Packet) (all xs ys : List Packet) → all ≡ xs ++ ys → (if b then x ∷ all else all) ≡ (if b then x ∷ xs else xs) ++ ys
@@ -96,26 +97,20 @@ take_left : (b : Bool) (waiting more : List Packet) (place : ℕ) → (b ≡ tru
 take_left true waiting more place there = remove-append_left waiting more place (there refl)
 take_left false waiting more place there = refl
 
-there : (queues : List (List Packet)) (l link place : ℕ) (idle : Bool) → l ≡ link → idle ≡ false → (idle ≡ false → Waits queues l place) → place < length (slice_index_or queues link [])
-there queues l link place idle same busy waits = subst (λ (k : ℕ). place < length (slice_index_or queues k [])) same (waits busy).1
+there : (queues : List (List Packet)) (l link place : ℕ) → l ≡ link → Waits queues l place → place < length (slice_index_or queues link [])
+there queues l link place same waits = subst (λ (k : ℕ). place < length (slice_index_or queues k [])) same waits.1
 
 left_past : (link : ℕ) (event : Event) (outcome : Outcome) (queues : List (List Packet)) (more : List Packet) → IsInPlace queues event outcome
     → left_after link event outcome (slice_index_or queues link [] ++ more) ≡ left_after link event outcome (slice_index_or queues link []) ++ more
-left_past link (Send host service now dests) outcome queues more place = refl
-left_past link (Tick node now) outcome queues more place = refl
 left_past link (Take l at keep) outcome queues more waits =
     take_left ((l.0 == link) && (not keep && not (is_idle outcome))) (slice_index_or queues link []) more at
     (λ is. let both = and_parts (l.0 == link) (not keep && not (is_idle outcome)) is in
-    there queues l.0 link at (is_idle outcome) (eqb-true l.0 link both.0) (not-true (is_idle outcome) (and_parts (not keep) (not (is_idle outcome)) both.1).1) waits)
+    there queues l.0 link at (eqb-true l.0 link both.0) (waits (not-true (is_idle outcome) (and_parts (not keep) (not (is_idle outcome)) both.1).1)))
 left_past link (Lose l at) outcome queues more waits =
-    take_left ((l.0 == link) && not (is_idle outcome)) (slice_index_or queues link []) more at
-    (λ is. let both = and_parts (l.0 == link) (not (is_idle outcome)) is in
-    there queues l.0 link at (is_idle outcome) (eqb-true l.0 link both.0) (not-true (is_idle outcome) both.1) waits)
-left_past link (ControlTake place keep) outcome queues more waits = refl
-left_past link (ControlLose place) outcome queues more waits = refl
-left_past link Decide outcome queues more waits = refl
-left_past link (Crash node) outcome queues more waits = refl
-left_past link (Cut l) outcome queues more waits = refl
+    take_left ((l.0 == link) && is_ok outcome) (slice_index_or queues link []) more at
+    (λ is. let both = and_parts (l.0 == link) (is_ok outcome) is in
+    there queues l.0 link at (eqb-true l.0 link both.0) (waits both.1))
+left_past link _ outcome queues more waits = refl
 
 waits_more : (old new : List (List Packet)) (puts : List (LinkId × Packet)) (link place : ℕ) → HavePut old puts new → Waits old link place → Waits new link place
 waits_more old new puts link place put waits = (
@@ -124,34 +119,44 @@ waits_more old new puts link place put waits = (
 )
 
 pub in_place_more : (old new : List (List Packet)) (puts : List (LinkId × Packet)) (event : Event) (outcome : Outcome) → HavePut old puts new → IsInPlace old event outcome → IsInPlace new event outcome
-in_place_more old new puts (Send host service now dests) outcome put waits = tt
-in_place_more old new puts (Tick node now) outcome put waits = tt
 in_place_more old new puts (Take l at keep) outcome put waits = λ busy. waits_more old new puts l.0 at put (waits busy)
-in_place_more old new puts (Lose l at) outcome put waits = λ busy. waits_more old new puts l.0 at put (waits busy)
-in_place_more old new puts (ControlTake place keep) outcome put waits = tt
-in_place_more old new puts (ControlLose place) outcome put waits = tt
-in_place_more old new puts Decide outcome put waits = tt
-in_place_more old new puts (Crash node) outcome put waits = tt
-in_place_more old new puts (Cut l) outcome put waits = tt
+in_place_more old new puts (Lose l at) outcome put waits = λ ok. waits_more old new puts l.0 at put (waits ok)
+in_place_more old new puts _ outcome put waits = tt
+
+-- no event that is built cuts a link
+uncut : (link : ℕ) (event : Event) → IsBuilt event → is_cut_of link event ≡ false
+uncut link (Cut l) built = absurd built
+uncut link _ built = refl
+
+still_whole : (link : ℕ) (r : Record) (past : List Record) → IsBuilt r.event → is_cut link past ≡ false → is_cut link (r ∷ past) ≡ false
+still_whole link r past built whole = let here : is_cut_of link r.event ≡ false = uncut link r.event built in rw here whole
+
+unless_cut : (b : Bool) (ps : List Packet) → b ≡ false → (if b then [] else ps) ≡ ps
+unless_cut true ps is = cc
+unless_cut false ps is = refl
 
 -- what stands for a history stands after a record for the history with that record
-pub entered : (graph : Graph) (past : List Record) (r : Record) (old mid new : List (List Packet)) → HavePut old r.step.put mid → IsInPlace old r.event r.step.outcome → HasLeft r.event r.step.outcome mid new
+pub entered : (graph : Graph) (past : List Record) (r : Record) (old mid new : List (List Packet)) → IsBuilt r.event → HavePut old r.step.put mid → IsInPlace old r.event r.step.outcome → HasLeft r.event r.step.outcome mid new
     → Stand graph old past → Stand graph new (r ∷ past)
-entered graph past r old mid new put place left stands = record {
+entered graph past r old mid new built put place left stands = record {
   count = left.count ∙ put.count ∙ stands.count;
+  whole = λ link. still_whole link r past built (stands.whole link);
   lists_are = λ link lt.
       let in_old : link < length old = omega (arith, stands.count) in
       let in_mid : link < length mid = omega (arith, put.count, in_old) in
       left.lists_are link in_mid
       ∙ ap (λ (xs : List Packet). left_after link r.event r.step.outcome xs) (put.lists_are link in_old)
       ∙ left_past link r.event r.step.outcome old (put_on link r.step.put) place
-      ∙ ap (λ (xs : List Packet). left_after link r.event r.step.outcome xs ++ put_on link r.step.put) (stands.lists_are link lt);
+      ∙ ap (λ (xs : List Packet). left_after link r.event r.step.outcome xs ++ put_on link r.step.put) (stands.lists_are link lt)
+      ∙ sym (unless_cut (is_cut link (r ∷ past)) (left_after link r.event r.step.outcome (waiting_on link past) ++ put_on link r.step.put)
+      (still_whole link r past built (stands.whole link)));
 }
 
 -- what nothing was put on stands as before
 pub restored : (graph : Graph) (past : List Record) (old new : List (List Packet)) → HavePut old [] new → Stand graph old past → Stand graph new past
 restored graph past old new put stands = record {
   count = put.count ∙ stands.count;
+  whole = stands.whole;
   lists_are = λ link lt.
       let in_old : link < length old = omega (arith, stands.count) in
       put.lists_are link in_old ∙ append-nil (slice_index_or old link []) ∙ stands.lists_are link lt;

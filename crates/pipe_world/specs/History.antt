@@ -1,7 +1,8 @@
 -- The records so far, and the count of what they put.
 use Rattle.std.specs.Prelude.{◌≡◌, ℕ, ◌+◌, ◌<◌, ◌≤◌, List}
 use Rattle.pipe_model.specs.declared.record.Record.{Record}
-use Rattle.pipe_model.specs.Items.{items_in, items_of, most_items}
+use Rattle.pipe_base.specs.Limits.{most_items}
+use Rattle.pipe_model.specs.Items.{IsOver, items_in, items_of}
 use Rattle.pipe_world.specs.declared.fault.StepFault.{StepFault}
 use Rattle.pipe_world.specs.declared.fault.StepFault.TheVariants.{Full}
 use Rattle.pipe_world.specs.declared.history.Refused.{Refused}
@@ -10,12 +11,6 @@ use Rattle.pipe_world.specs.declared.history.Refused.{Refused}
 pub record IsCounted (items : ℕ) (trace : List Record) : Type 0 where
   pub count_is : items ≡ items_of trace
   pub within : items ≤ most_items
-
--- with the record so much would have been put, and that is too much; so far it was not
-pub record IsOver (trace : List Record) (r : Record) (items : ℕ) : Type 0 where
-  pub within : items_of trace ≤ most_items
-  pub items_are : items ≡ items_of trace + items_in r
-  pub many : most_items < items
 
 -- where a fault is that there is too much, the record would have been too much
 abbrev pub FullBy : List Record → Record → StepFault → Type 0
@@ -26,3 +21,7 @@ pub record IsRefused (old new : List Record) (r : Record) (refused : Refused) : 
   pub record_is : refused.«record» ≡ r
   pub same : new ≡ old
   pub full : FullBy old r refused.fault
+
+-- too much is told as such, whether there is memory or not
+abbrev pub IsToldFull : List Record → Record → StepFault → Type 0
+IsToldFull trace r fault = most_items < items_of trace + items_in r → fault ≡ Full (items_of trace + items_in r)

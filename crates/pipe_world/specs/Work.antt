@@ -5,9 +5,10 @@ use Rattle.pipe_base.specs.declared.name.LinkId.{LinkId}
 use Rattle.pipe_base.specs.declared.packet.Packet.{Packet}
 use Rattle.pipe_base.specs.declared.name.Ts.{Ts}
 use Rattle.pipe_base.specs.declared.step.Fate.{Fate}
-use Rattle.pipe_base.specs.declared.step.Fate.TheVariants.{Held, Repeat, Late, Discarded, Recalled}
+use Rattle.pipe_base.specs.declared.step.Fate.TheVariants.{Held}
 use Rattle.pipe_base.specs.declared.step.Outcome.TheVariants.{Ok}
 use Rattle.pipe_base.specs.declared.step.Step.{Step}
+use Rattle.pipe_base.specs.Clock.{after_logged, next_after}
 use Rattle.pipe_base.specs.Graph.{Graph}
 use Rattle.pipe_base.specs.Messages.{Messages, below_barrier, from_barrier, has_key, logged_of}
 use Rattle.pipe_base.specs.Moment.{Moment, Received}
@@ -18,11 +19,13 @@ use Rattle.pipe_barrier.specs.Registers as registers
 use Rattle.pipe_model.specs.declared.event.Event.{Event}
 use Rattle.pipe_model.specs.declared.record.Record.{Record}
 use Rattle.pipe_model.specs.declared.record.Took.{Took}
-use Rattle.pipe_model.specs.declared.record.Took.TheVariants.{Nothing, Link, Message}
-use Rattle.pipe_model.specs.Clock.{next, next_after, after_logged, stamped}
+use Rattle.pipe_model.specs.declared.record.Took.TheVariants.{Link}
+use Rattle.pipe_model.specs.Clock.{next, tick_reading}
 use Rattle.pipe_model.specs.Duties.{routed, lost, owed_of, owed_by_take, beacons_of}
-use Rattle.pipe_model.specs.Fate.{fate_of, got_of, key_of, with_held}
+use Rattle.pipe_model.specs.Fate.{fate_for, with_held}
+use Rattle.pipe_model.specs.Got.{gets_of, key_of, message_of}
 use Rattle.pipe_model.specs.Moments.{received_of, with_received}
+use Rattle.pipe_model.specs.OwnOutcome.{own_outcome, stamped}
 use Rattle.pipe_world.specs.declared.node.Node.{Node}
 use Rattle.pipe_world.specs.declared.work.Work.{Work}
 use Rattle.pipe_world.specs.Puts.{fields_for}
@@ -38,19 +41,17 @@ received_in r = received_of [] r.event r.took
 
 -- the packet that was taken
 abbrev pub packet_of : Took → Option Packet
-packet_of Nothing = None
 packet_of (Link l p) = Some p
-packet_of (Message a) = None
+packet_of _ = None
+
+-- the best-effort message of a packet that is received
+abbrev pub message_in : Graph → ℕ → Option (ℕ × Packet) → Option Packet
+message_in graph node received = message_of BestEffort (gets_of graph node received)
 
 -- a message with the fate held was not among these
 abbrev pub IsFresh : Option Fate → Option Packet → Messages → Type 0
 IsFresh (Some Held) (Some p) messages = has_key (key_of p) messages ≡ false
-IsFresh (Some Held) None messages = Unit {0}
-IsFresh (Some Repeat) message messages = Unit {0}
-IsFresh (Some (Late barrier)) message messages = Unit {0}
-IsFresh (Some (Discarded time)) message messages = Unit {0}
-IsFresh (Some Recalled) message messages = Unit {0}
-IsFresh None message messages = Unit {0}
+IsFresh _ message messages = Unit {0}
 
 -- A step at a node: what it did, and its record, in the words of what was kept before. The message that it brought is held already.
 pub record IsWork (graph : Graph) (node : ℕ) (old mid : Node) (event : Event) (w : Work) : Type 0 where
@@ -58,14 +59,15 @@ pub record IsWork (graph : Graph) (node : ℕ) (old mid : Node) (event : Event) 
   pub received_is : received_in (record_of event w) ≡ received
   pub barriers : Barriers
   pub barriers_are : (ins : List LinkId) (past : List Moment) → registers.Stands ins old.registers past → AreBarriers ins (with_received true received past) barriers
-  pub next_is : w.next.0 ≡ max old.next.0 (next_after (record_of event w))
+  pub next_is : w.next.0 ≡ next_after old.next.0 (tick_reading event) w.step.stamped w.step.logged
   pub downed_is : w.step.downed ≡ []
   pub dropped_is : w.step.dropped ≡ []
   pub noted_is : w.step.noted ≡ []
   pub control_is : w.step.control ≡ []
-  pub stamped_is : (own : List Record) → next own ≡ old.next.0 → w.step.stamped ≡ stamped own event
-  pub fate_is : w.step.fate ≡ fate_of old.registers.be old.held.messages (got_of BestEffort graph node received)
-  pub held_is : mid.held.messages ≡ with_held w.step.fate (got_of BestEffort graph node received) old.held.messages
+  pub outcome_is : (own : List Record) → next own ≡ old.next.0 → w.step.outcome ≡ own_outcome graph node own event
+  pub stamped_is : (own : List Record) → next own ≡ old.next.0 → w.step.stamped ≡ stamped graph node own event
+  pub fate_is : w.step.fate ≡ fate_for old.registers.be old.held.messages (message_in graph node received)
+  pub held_is : mid.held.messages ≡ with_held w.step.fate (message_in graph node received) old.held.messages
   pub fresh : IsFresh w.step.fate (packet_of w.took) old.held.messages
   pub taken_is : mid.held.messages ≡ with_held w.step.fate (packet_of w.took) old.held.messages
   pub service_is : mid.held.service ≡ old.held.service

@@ -3,20 +3,18 @@ use Rattle.std.specs.Prelude.{◌≡◌, ◌≢◌, ℕ, ◌<◌, ◌≤◌, nat
 use Rattle.pipe_base.specs.declared.name.NodeId.{NodeId}
 use Rattle.pipe_base.specs.declared.packet.Packet.{Packet}
 use Rattle.pipe_base.specs.declared.step.Outcome.{Outcome}
-use Rattle.pipe_base.specs.declared.step.Outcome.TheVariants.{Ok}
 use Rattle.pipe_base.specs.Graph.{Graph, IsGraph, head_of}
 use Rattle.pipe_base.specs.Step.{quiet_step}
 use Rattle.pipe_model.specs.declared.event.Event.{Event}
-use Rattle.pipe_model.specs.declared.event.Event.TheVariants.{Send, Tick, Take, Lose, ControlTake, ControlLose, Decide, Crash, Cut}
+use Rattle.pipe_model.specs.declared.event.Event.TheVariants.{Send, Tick, Take, Lose}
 use Rattle.pipe_model.specs.declared.record.Record.{Record}
+use Rattle.pipe_model.specs.declared.record.Took.{Took}
 use Rattle.pipe_model.specs.declared.record.Took.TheVariants.{Nothing}
 use Rattle.pipe_model.specs.Acting.{is_own, own}
-use Rattle.pipe_model.specs.Clock.{send_outcome}
+use Rattle.pipe_model.specs.Items.{IsOver}
 use Rattle.pipe_model.specs.Outcome.{took_at}
 use Rattle.pipe_model.specs.Run.{IsHistory, IsStep}
 use Rattle.pipe_world.specs.declared.node.Node.{Node}
-use Rattle.pipe_world.specs.declared.work.Work.{Work}
-use Rattle.pipe_world.specs.History.{IsOver}
 use Rattle.pipe_world.specs.Node as node
 use Rattle.pipe_world.specs.Queues as queues
 
@@ -45,43 +43,30 @@ pub record AddsEvent (old new : List Record) (event : Event) : Type 0 where
 
 -- something waits at the place that the event names, if it names one
 abbrev pub is_there : List (List Packet) → Event → Bool
-is_there lists (Send host service now dests) = true
-is_there lists (Tick n now) = true
 is_there lists (Take link place keep) = nat_lt place (length (slice_index_or lists link.0 []))
 is_there lists (Lose link place) = nat_lt place (length (slice_index_or lists link.0 []))
-is_there lists (ControlTake place keep) = true
-is_there lists (ControlLose place) = true
-is_there lists Decide = true
-is_there lists (Crash n) = true
-is_there lists (Cut link) = true
+is_there lists _ = true
 
 -- the node acts in the event
 abbrev pub ActsAt : Graph → NodeId → Event → Type 0
 ActsAt graph id (Send host service now dests) = id.0 ≡ host.0
 ActsAt graph id (Tick n now) = id ≡ n
 ActsAt graph id (Take link place keep) = id.0 ≡ head_of graph link.0
-ActsAt graph id (Lose link place) = ⊥
-ActsAt graph id (ControlTake place keep) = ⊥
-ActsAt graph id (ControlLose place) = ⊥
-ActsAt graph id Decide = ⊥
-ActsAt graph id (Crash n) = ⊥
-ActsAt graph id (Cut link) = ⊥
+ActsAt graph id _ = ⊥
 
--- the outcome of an event at a node with this next timestamp, and what it takes
-abbrev pub Tells : ℕ → List (List Packet) → Event → Work → Type 0
-Tells next lists (Send host service now dests) w = (w.step.outcome ≡ send_outcome now.0 next) × (w.took ≡ Nothing)
-Tells next lists (Tick n now) w = (w.step.outcome ≡ Ok) × (w.took ≡ Nothing)
-Tells next lists (Take link place keep) w = (w.step.outcome ≡ Ok) × (w.took ≡ took_at link (slice_get (slice_index_or lists link.0 []) place))
-Tells next lists (Lose link place) w = ⊥
-Tells next lists (ControlTake place keep) w = ⊥
-Tells next lists (ControlLose place) w = ⊥
-Tells next lists Decide w = ⊥
-Tells next lists (Crash n) w = ⊥
-Tells next lists (Cut link) w = ⊥
+-- no node acts in the event
+abbrev pub IsOfNobody : Event → Type 0
+IsOfNobody (Lose link place) = Unit {0}
+IsOfNobody _ = ⊥
+
+-- what a node's event takes from the lists
+abbrev pub taken_of : List (List Packet) → Event → Took
+taken_of lists (Take link place keep) = took_at link (slice_get (slice_index_or lists link.0 []) place)
+taken_of lists _ = Nothing
 
 -- an event at a node: its record is what the rules say, and what is kept follows it
 pub record Adds (graph : Graph) (id : ℕ) (before after : Node) (lists left : List (List Packet)) (r : Record) : Type 0 where
-  pub rules : (past : List Record) → node.Stands graph id (own graph id past) before → queues.Stand graph lists past → IsStep graph past r
+  pub rules : (past : List Record) → IsHistory graph past → node.Stands graph id (own graph id past) before → queues.Stand graph lists past → IsStep graph past r
   pub node_stands : (past : List Record) → node.Stands graph id (own graph id past) before → node.Stands graph id (own graph id (r ∷ past)) after
   pub others : (n : ℕ) → n ≢ id → is_own graph n r ≡ false
   pub queues_stand : (past : List Record) → queues.Stand graph lists past → queues.Stand graph left (r ∷ past)
@@ -95,7 +80,7 @@ pub record Restores (graph : Graph) (id : ℕ) (before after : Node) (lists left
 pub record WouldOverfill (graph : Graph) (id : ℕ) (before : Node) (lists : List (List Packet)) (trace : List Record) (event : Event) (items : ℕ) : Type 0 where
   pub next : Record
   pub event_is : next.event ≡ event
-  pub rules : (past : List Record) → node.Stands graph id (own graph id past) before → queues.Stand graph lists past → IsStep graph past next
+  pub rules : (past : List Record) → IsHistory graph past → node.Stands graph id (own graph id past) before → queues.Stand graph lists past → IsStep graph past next
   pub over : IsOver trace next items
 
 -- the record of an event that changes no node

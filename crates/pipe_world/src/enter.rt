@@ -2,7 +2,9 @@
 ghost use Rattle.std.specs.Prelude.{◌≡◌, ◌≤◌, [], ◌∷◌, ◌++◌, List, OnOk, OnErr, IfErr, length};
 ghost use Rattle.pipe_base.specs.Graph.{Graph};
 ghost use Rattle.pipe_model.specs.declared.record.Record.{Record};
-ghost use Rattle.pipe_model.specs.Items.{items_in, most_items};
+ghost use Rattle.pipe_base.specs.Limits.{most_items};
+ghost use Rattle.pipe_model.specs.Event.{IsBuilt};
+ghost use Rattle.pipe_model.specs.Items.{items_in};
 ghost use Rattle.pipe_world.specs.History.{IsRefused};
 ghost use Rattle.pipe_world.specs.Queues.{AreKnown, IsInPlace, Stand};
 
@@ -15,6 +17,7 @@ use pipe_model::Record;
 /// Appends the record and moves packets as it says. Hands the record back where it puts too much or there is no memory, and
 /// then all is as before.
 pub fn enter(queues: &mut [Queue], history: &mut History, record: Record) -> Result<(), Refused>
+    requires built { IsBuilt «record».event }
     requires known { AreKnown (length queues.old) «record».step.put }
     requires few { items_in «record» ≤ most_items }
     requires in_place { IsInPlace queues.old «record».event «record».step.outcome }

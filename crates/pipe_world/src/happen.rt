@@ -4,11 +4,10 @@ ghost use Rattle.pipe_base.specs.Graph.{Graph, IsGraph};
 ghost use Rattle.pipe_model.specs.declared.record.Record.{Record};
 ghost use Rattle.pipe_model.specs.Event.{IsOfGraph, IsBuilt};
 ghost use Rattle.pipe_model.specs.Items.{Overfills};
-ghost use Rattle.pipe_model.specs.Run.{is_of_nobody};
 ghost use Rattle.pipe_world.specs.History.{FullBy};
 ghost use Rattle.pipe_world.specs.Queues.{AreKnown, IsInPlace};
 ghost use Rattle.pipe_world.specs.Work.{IsWork};
-ghost use Rattle.pipe_world.specs.World.{ActsAt, Adds, AddsEvent, IsAsBefore, PassesBy, Restores, Stands, Tells, WouldOverfill, is_there, quiet_record};
+ghost use Rattle.pipe_world.specs.World.{ActsAt, Adds, AddsEvent, IsAsBefore, IsOfNobody, PassesBy, Restores, Stands, WouldOverfill, is_there, quiet_record, taken_of};
 
 use crate::enter::enter;
 use crate::fault::StepFault;
@@ -74,7 +73,7 @@ fn acting_node(network: &Network, event: &Event) -> Option<NodeId>
     requires graph { IsGraph network.now }
     requires event { IsOfGraph network.now event.now }
     requires built { IsBuilt event.now }
-    ensures acts { MatchOption result (is_of_nobody event.now ≡ true) (λ id. ActsAt network.now id event.now) }
+    ensures acts { MatchOption result (IsOfNobody event.now) (λ id. ActsAt network.now id event.now) }
     ensures known { IfSome result (λ id. id.0 < network.now.nodes) }
 {
     match event {
@@ -93,7 +92,8 @@ fn pass_by(
     event: Event,
     outcome: Outcome,
 ) -> Result<(), StepFault>
-    requires { IsInPlace queues.old event outcome }
+    requires built { IsBuilt event }
+    requires in_place { IsInPlace queues.old event outcome }
     ensures ok { OnOk result (PassesBy queues.old queues.new history.old history.new (quiet_record event outcome)) }
     ensures err { OnErr result (IsAsBefore queues.old queues.new history.old history.new) }
     ensures full { IfErr result (FullBy history.old (quiet_record event outcome)) }
@@ -170,7 +170,7 @@ fn work_at(
     requires there { is_there queues.now event.now ≡ true }
     ensures work { IfOk result (IsWork network.now id.0 node.old node.new event.now) }
     ensures known { IfOk result (λ work. AreKnown (length network.now.links) work.step.put) }
-    ensures tells { IfOk result (Tells node.old.next.0 queues.now event.now) }
+    ensures took { IfOk result (λ work. work.took ≡ taken_of queues.now event.now) }
     ensures err { OnErr result (node.new ≡ node.old) }
 {
     match event {

@@ -1,7 +1,8 @@
 // All that happened, and how much was put in it.
 ghost use Rattle.std.specs.Prelude.{◌≡◌, ◌≤◌, ◌+◌, ◌++◌, ◌∷◌, [], IfErr, OnOk};
-ghost use Rattle.pipe_model.specs.Items.{items_in, items_of, most_items};
-ghost use Rattle.pipe_world.specs.History.{IsRefused};
+ghost use Rattle.pipe_base.specs.Limits.{most_items};
+ghost use Rattle.pipe_model.specs.Items.{items_in, items_of};
+ghost use Rattle.pipe_world.specs.History.{IsRefused, IsToldFull};
 
 use crate::fault::StepFault;
 use pipe_base::List;
@@ -80,6 +81,7 @@ impl History {
         requires { items_in «record» ≤ most_items }
         ensures ok { OnOk result (self.new ≡ self.old ++ «record» ∷ []) }
         ensures err { IfErr result (IsRefused self.old self.new «record») }
+        ensures many { IfErr result (λ refused. IsToldFull self.old «record» refused.fault) }
     {
         let items = self.items_with(&record);
         if items > MOST_ITEMS {

@@ -1,8 +1,10 @@
 // The packets that a step puts, each on its way.
 ghost use Rattle.std.specs.Prelude.{◌≡◌, ◌+◌, ◌<◌, ◌≤◌, ◌++◌, ℕ, [], ◌∷◌, Some, IfOk, OnOk, length, map};
 ghost use Rattle.pipe_base.specs.Graph.{outs_of};
+ghost use Rattle.pipe_base.specs.Limits.{most_receivers};
 ghost use Rattle.pipe_base.specs.ShortestRoute.{route};
-ghost use Rattle.pipe_model.specs.Duties.{is_beacon, message_to, beacon, owed_by_take, on_way, lost};
+ghost use Rattle.pipe_model.specs.Duties.{message_to, beacon, owed_by_take, on_way, lost};
+ghost use Rattle.pipe_model.specs.Got.{is_beacon};
 ghost use Rattle.pipe_world.specs.Puts.{fields_of, fields_for, ArePutsOf};
 ghost use Rattle.pipe_world.specs.Queues.{AreKnown};
 
@@ -71,7 +73,7 @@ pub fn messages(
     dests: &DestList,
 ) -> Result<Puts, NoMemory>
     requires node { src.0 < network.now.nodes }
-    requires few { length dests.now ≤ 16 }
+    requires few { length dests.now ≤ most_receivers }
     ensures { IfOk result (ArePutsOf network.now src.0 (map (message_to src ts (fields_of fields)) dests.now)) }
 {
     let mut puts = Puts {

@@ -2,6 +2,7 @@
 ghost use Rattle.std.specs.Prelude.{◌≡◌, ℕ, ◌∷◌, ◌<◌, ◌≤◌, List, [], IfOk, OnOk, OnErr, length, take, slice_index_or};
 ghost use Rattle.pipe_base.specs.declared.packet.Packet.{Packet};
 ghost use Rattle.pipe_model.specs.Acting.{is_idle};
+ghost use Rattle.pipe_model.specs.Waiting.{is_ok};
 ghost use Rattle.pipe_world.specs.Queues.{HavePut, AreKnown, IsInPlace, HasLeft};
 
 use crate::queue::Queue;
@@ -84,11 +85,15 @@ pub fn take_out(queues: &mut [Queue], event: &Event, outcome: Outcome)
             place,
             keep: false,
         } if !is_idle(outcome) => queues[link.0 as usize].remove(*place),
-        Event::Lose { link, place } if !is_idle(outcome) => {
-            queues[link.0 as usize].remove(*place)
-        }
+        Event::Lose { link, place } if is_ok(outcome) => queues[link.0 as usize].remove(*place),
         _ => {}
     }
+}
+
+fn is_ok(outcome: Outcome) -> bool
+    ensures { result ≡ is_ok outcome }
+{
+    matches!(outcome, Outcome::Ok)
 }
 
 fn is_idle(outcome: Outcome) -> bool

@@ -4,10 +4,12 @@ ghost use Rattle.pipe_base.specs.declared.message.Service.{Service};
 ghost use Rattle.pipe_base.specs.declared.message.Service.TheVariants.{BestEffort};
 ghost use Rattle.pipe_base.specs.Messages.{Messages};
 ghost use Rattle.pipe_model.specs.declared.event.Event.TheVariants.{Send, Tick, Take};
-ghost use Rattle.pipe_model.specs.Clock.{after_logged, send_outcome};
-ghost use Rattle.pipe_model.specs.Fate.{carries, fate_of, got_of, key_of, with_held};
+ghost use Rattle.pipe_base.specs.Clock.{after_logged};
+ghost use Rattle.pipe_base.specs.Limits.{most_receivers};
+ghost use Rattle.pipe_model.specs.Fate.{fate_for, with_held};
+ghost use Rattle.pipe_model.specs.Got.{carries, key_of};
 ghost use Rattle.pipe_world.specs.Queues.{AreKnown};
-ghost use Rattle.pipe_world.specs.Work.{IsWork, IsFresh, IsReceipt};
+ghost use Rattle.pipe_world.specs.Work.{IsWork, IsFresh, IsReceipt, message_in};
 
 use crate::network::Network;
 use crate::node::Node;
@@ -39,10 +41,10 @@ pub fn send_work(
     dests: &DestList,
 ) -> Result<Work, NoMemory>
     requires node { host.0 < network.now.nodes }
-    requires few { length dests.now ≤ 16 }
+    requires few { length dests.now ≤ most_receivers }
     ensures work { IfOk result (λ work. (service : Service) → IsWork network.now host.0 node.now node.now (Send host service now dests.now) work) }
     ensures known { IfOk result (λ work. AreKnown (length network.now.links) work.step.put) }
-    ensures outcome { IfOk result (λ work. (work.step.outcome ≡ send_outcome now.0 node.now.next.0) × (work.took ≡ Took.Nothing)) }
+    ensures took { IfOk result (λ work. work.took ≡ Took.Nothing) }
 {
     let mut step = Step::new(alloc);
     let stamp = Ts(now.0.max(node.next.0));
@@ -78,7 +80,7 @@ pub fn tick_work(
     requires node { id.0 < network.now.nodes }
     ensures work { IfOk result (λ work. IsWork network.now id.0 node.now node.now (Tick id now) work) }
     ensures known { IfOk result (λ work. AreKnown (length network.now.links) work.step.put) }
-    ensures outcome { IfOk result (λ work. (work.step.outcome ≡ Outcome.Ok) × (work.took ≡ Took.Nothing)) }
+    ensures took { IfOk result (λ work. work.took ≡ Took.Nothing) }
 {
     let mut step = Step::new(alloc);
     let next = Ts(node.next.0.max(now.0));
@@ -103,7 +105,7 @@ pub fn take_work(
     requires node { id.0 < network.now.nodes }
     ensures work { IfOk result (λ work. (place : ℕ) (keep : Bool) → IsWork network.now id.0 node.old node.new (Take link place keep) work) }
     ensures known { IfOk result (λ work. AreKnown (length network.now.links) work.step.put) }
-    ensures outcome { IfOk result (λ work. (work.step.outcome ≡ Outcome.Ok) × (work.took ≡ Took.Link link packet)) }
+    ensures took { IfOk result (λ work. work.took ≡ Took.Link link packet) }
     ensures err { OnErr result (node.new ≡ node.old) }
 {
     let fate = fate_at(network, id, node, &packet);
@@ -157,7 +159,7 @@ fn barriers(node: &Node) -> Barriers
 
 /// What becomes of a message that the packet brings to its receiver, if it does.
 fn fate_at(network: &Network, id: NodeId, node: &Node, packet: &Packet) -> Option<Fate>
-    ensures { (link : ℕ) → result ≡ fate_of node.now.registers.be node.now.held.messages (got_of BestEffort network.now id.0 (Some (link, packet.now))) }
+    ensures { (link : ℕ) → result ≡ fate_for node.now.registers.be node.now.held.messages (message_in network.now id.0 (Some (link, packet.now))) }
 {
     if !network.topology().is_host(id) || packet.dst.0 != id.0 || !is_message(packet.kind) {
         return None;

@@ -1,7 +1,8 @@
 // The world: a network, what its nodes keep, what waits, and all that happened.
 ghost use Rattle.std.specs.Prelude.{◌≡◌, ◌<◌, ◌≤◌, ℕ, [], IfErr, IfOk, OnOk, OnErr, length, min, reverse, slice_index_or};
 ghost use Rattle.pipe_model.specs.Event.{IsOfGraph, IsBuilt};
-ghost use Rattle.pipe_model.specs.Items.{Overfills, items_of, most_items};
+ghost use Rattle.pipe_base.specs.Limits.{most_items};
+ghost use Rattle.pipe_model.specs.Items.{Overfills, items_of};
 ghost use Rattle.pipe_model.specs.Order.{AreLogsOrdered, AreStampsCausal, IsGenuine};
 ghost use Rattle.pipe_model.specs.Run.{IsHistory};
 ghost use Rattle.pipe_model.specs.Waiting.{waiting_on};

@@ -14,7 +14,7 @@ returns-in-Ok-clause-queues_ok c = λ graph past stands.
     ∙ ap (λ (rs : List Record). get_or rs c.len-at.result c.index-as_slice-at.result) (c.as_slice-in-Ok.ensures ∙ c.trace-in-Ok.ensures.trace ∙ c.in-Ok.ensures.ok)
     ∙ get_or_push c.args.history.now c.args.«record» c.index-as_slice-at.result c.len-at.result (sym (c.len-at.ensures ∙ ap length c.trace.ensures.trace)) in
     let put : HavePut c.args.queues.now c.as_slice.result.now c.put_all.new.queues = search rules in
-    entered graph past c.args.«record» c.args.queues.now c.put_all.new.queues c.take_out.new.queues
+    entered graph past c.args.«record» c.args.queues.now c.put_all.new.queues c.take_out.new.queues c.requires.built
     (subst (λ (ps : List (LinkId × Packet)). HavePut c.args.queues.now ps c.put_all.new.queues) c.as_slice.ensures put)
     c.requires.in_place
     (subst (λ (r : Record). HasLeft r.event r.step.outcome c.put_all.new.queues c.take_out.new.queues) read c.take_out.ensures)

@@ -19,7 +19,7 @@ returns-in-Ok-enter-clause-ok c =
       c.in-Ok-enter.ensures.ok,
       refl,
       added c.args.network.now c.args.id c.args.node.now c.work_at.new.node c.commit.new.node c.args.queues.now c.enter.new.queues c.args.event w
-          c.requires.event c.requires.built c.requires.acts c.requires.there c.in-Ok.ensures.work c.in-Ok.ensures.tells
+          c.requires.event c.requires.built c.requires.acts c.requires.there c.in-Ok.ensures.work c.in-Ok.ensures.took
           (subst (λ (s : Record). Commits s w.next.0 c.work_at.new.node c.commit.new.node) read c.commit.ensures)
           (c.in-Ok-enter.ensures.queues_ok c.args.network.now),
     )
@@ -51,6 +51,6 @@ returns-in-Err-clause-full c = λ items is.
       next = record_of c.args.event w;
       event_is = refl;
       rules = worked c.args.network.now c.args.id c.args.node.now c.work_at.new.node c.args.queues.now c.args.event w c.requires.event c.requires.built c.requires.acts
-          c.requires.there c.in-Ok.ensures.work c.in-Ok.ensures.tells;
+          c.requires.there c.in-Ok.ensures.work c.in-Ok.ensures.took;
       over = c.in-Err.ensures.err.full items is;
     }

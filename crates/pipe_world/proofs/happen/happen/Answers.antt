@@ -65,7 +65,7 @@ returns-in-None-clause-stands c =
     (Stands graph c.args.nodes.now c.pass_by-in-None.new.queues c.pass_by-in-None.new.history)
     c.pass_by-in-None.ensures.ok c.pass_by-in-None.ensures.err
     (λ done. appended graph c.args.nodes.now c.pass_by-in-None.new.queues c.args.history.now c.pass_by-in-None.new.history r done.appended
-    (passed_by graph c.args.nodes.now c.args.queues.now c.pass_by-in-None.new.queues past r c.requires.stands (nobody_owned graph c.args.event c.requires.built c.in-None.ensures.acts)
+    (passed_by graph c.args.nodes.now c.args.queues.now c.pass_by-in-None.new.queues past r c.requires.stands (nobody_owned graph c.args.event c.in-None.ensures.acts)
     (loss_step graph past c.args.queues.now c.args.event c.requires.stands.queues_are c.requires.event c.requires.built c.in-None.ensures.acts there)
     (done.queues_stand graph past c.requires.stands.queues_are)))
     (λ refusal. unchanged graph c.args.nodes.now c.pass_by-in-None.new.queues c.args.history.now c.pass_by-in-None.new.history refusal.same
@@ -97,7 +97,7 @@ returns-in-Some-clause-full c =
     (λ (fault : StepFault). (items : ℕ) → fault ≡ Full items → Overfills graph c.args.history.now c.args.event items)
     (λ fault full items is.
     let would : WouldOverfill graph id before c.args.queues.now c.args.history.now c.args.event items = full items is in
-    overfills graph c.args.history.now would.next c.args.event items c.requires.stands.rules (would.rules past stands c.requires.stands.queues_are) would.event_is would.over)
+    overfills graph c.args.history.now would.next c.args.event items c.requires.stands.rules (would.rules past c.requires.stands.rules stands c.requires.stands.queues_are) would.event_is would.over)
     c.act.ensures.full
 
 pub returns-in-None-clause-full : goal.returns-in-None-clause-full

@@ -3,7 +3,8 @@ use Rattle.pipe_base.specs.Messages.{has_key, with_message}
 use Rattle.pipe_base.specs.declared.message.Key.{Key}
 use Rattle.pipe_base.specs.declared.step.Fate.{Fate}
 use Rattle.pipe_base.specs.declared.step.Fate.TheVariants.{Held}
-use Rattle.pipe_model.specs.Fate.{key_of, with_held}
+use Rattle.pipe_model.specs.Fate.{with_held}
+use Rattle.pipe_model.specs.Got.{key_of}
 use Rattle.pipe_world.specs.Work.{IsFresh}
 use Rattle.pipe_world.proofs.work.let_go.Goals as goal
 

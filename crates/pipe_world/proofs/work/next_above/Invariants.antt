@@ -1,5 +1,5 @@
 use Rattle.std.proofs.Common.{◌≡◌, max, drop}
-use Rattle.pipe_model.specs.Clock.{after_logged}
+use Rattle.pipe_base.specs.Clock.{after_logged}
 use Rattle.pipe_world.proofs.work.next_above.Given as goal
 
 abbrev pub invariant-entries : goal.invariant-entries
