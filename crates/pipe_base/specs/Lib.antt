@@ -8,7 +8,10 @@ pub mod Limits
 pub mod Messages
 pub mod Moment
 pub mod Outside
+pub mod Packets
 pub mod Path
 pub mod Reach
 pub mod ShortestRoute
+pub mod Silence
 pub mod Step
+pub mod Ways

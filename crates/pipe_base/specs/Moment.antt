@@ -1,7 +1,9 @@
 -- What happens at one node to its in-links, one moment at a time, newest first.
-use Rattle.std.specs.Prelude.{ℕ, ◌==◌, if◌then◌else◌, Bool, true, false, List, [], ◌∷◌, filter}
+use Rattle.std.specs.Prelude.{ℕ, ◌==◌, if◌then◌else◌, Bool, true, false, List, [], ◌∷◌, filter, Option, None, Some}
 use Rattle.std.specs.List.{list_any}
 use Rattle.pipe_base.specs.declared.name.LinkId.{LinkId}
+use Rattle.pipe_base.specs.declared.name.Ts.{Ts}
+use Rattle.pipe_base.specs.declared.packet.Packet.{Packet}
 use Rattle.pipe_base.specs.declared.packet.Plane.{Plane}
 use Rattle.pipe_base.specs.declared.packet.Plane.TheVariants.{BestEffort, Commit}
 
@@ -40,3 +42,26 @@ in_use plane ins past = filter (λ l. is_used plane past l.0) ins
 -- a link with this number is among them
 abbrev pub has_link : ℕ → List LinkId → Bool
 has_link link ls = list_any (λ l. l.0 == link) ls
+
+-- the step takes no link out of use
+abbrev pub keeps_links : List (LinkId × Ts) → List LinkId → Bool
+keeps_links [] [] = true
+keeps_links _ _ = false
+
+-- a received packet is looked at by itself only where the step takes no link out of use
+abbrev pub receipt : Bool → (ℕ × Packet) → Moment
+receipt true q = Received q.0 q.1.be.0 q.1.commit.0
+receipt false q = Counted q.0 q.1.be.0 q.1.commit.0
+
+-- the moments of a step, one kind after the other
+abbrev pub with_received : Bool → Option (ℕ × Packet) → List Moment → List Moment
+with_received looked None past = past
+with_received looked (Some q) past = receipt looked q ∷ past
+
+abbrev pub with_downed : List (LinkId × Ts) → List Moment → List Moment
+with_downed [] past = past
+with_downed (d ∷ ds) past = with_downed ds (WentDown d.0.0 ∷ past)
+
+abbrev pub with_dropped : List LinkId → List Moment → List Moment
+with_dropped [] past = past
+with_dropped (l ∷ ls) past = with_dropped ls (Dropped l.0 ∷ past)

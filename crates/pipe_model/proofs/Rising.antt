@@ -5,10 +5,10 @@ use Rattle.pipe_base.specs.declared.name.Ts.{Ts}
 use Rattle.pipe_base.specs.declared.packet.Packet.{Packet}
 use Rattle.pipe_base.specs.declared.packet.Plane.{Plane}
 use Rattle.pipe_base.specs.Graph.{Graph, ins_of}
-use Rattle.pipe_base.specs.Moment.{Moment, WentDown, Dropped}
+use Rattle.pipe_base.specs.Moment.{Moment, WentDown, Dropped, keeps_links, receipt, with_received, with_downed, with_dropped}
 use Rattle.pipe_base.specs.Barrier.{barrier, level, is_look}
 use Rattle.pipe_model.specs.declared.record.Record.{Record}
-use Rattle.pipe_model.specs.Moments.{with_received, with_downed, with_dropped, moments_of, receipt, barrier_at, received_of, keeps_links}
+use Rattle.pipe_model.specs.Moments.{moments_of, barrier_at, received_of}
 
 looked : (b : Bool) (before now : ℕ) → before ≤ (if b then max before now else before)
 looked true before now = omega arith

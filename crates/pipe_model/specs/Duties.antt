@@ -1,25 +1,21 @@
 -- Which packets a node owes in a record, and the two barriers that they carry.
-use Rattle.std.specs.Prelude.{ℕ, ◌&&◌, not, if◌then◌else◌, List, [], ◌∷◌, ◌++◌, Option, None, Some, map, filter, count_by, is_none}
+use Rattle.std.specs.Prelude.{ℕ, ◌&&◌, not, if◌then◌else◌, List, [], ◌∷◌, ◌++◌, Option, None, Some, map, filter}
 use Rattle.pipe_base.specs.declared.name.HostId.{HostId}
 use Rattle.pipe_base.specs.declared.name.LinkId.{LinkId}
 use Rattle.pipe_base.specs.declared.name.Ts.{Ts}
 use Rattle.pipe_base.specs.declared.control.Addressed.{Addressed}
 use Rattle.pipe_base.specs.declared.packet.Packet.{Packet}
-use Rattle.pipe_base.specs.declared.packet.PacketKind.TheVariants.{Beacon, Plain}
 use Rattle.pipe_base.specs.declared.packet.Plane.TheVariants as plane
 use Rattle.pipe_base.specs.Graph.{Graph, is_host, is_half, outs_of}
+use Rattle.pipe_base.specs.Packets.{Fields, message_to, forwarded, beacon}
 use Rattle.pipe_base.specs.ShortestRoute.{not_dropped, route}
+use Rattle.pipe_base.specs.Ways.{routed, lost}
 use Rattle.pipe_model.specs.declared.event.Event.{Event}
 use Rattle.pipe_model.specs.declared.event.Event.TheVariants.{Send, Tick, Take}
 use Rattle.pipe_model.specs.declared.record.Record.{Record}
 use Rattle.pipe_model.specs.Clock.{next, promise}
 use Rattle.pipe_model.specs.Got.{is_beacon}
 use Rattle.pipe_model.specs.Moments.{received, barrier_at, known_drops}
-
--- the two barriers of a packet
-pub record Fields : Type 0 where
-  pub be : ℕ
-  pub commit : ℕ
 
 -- packets of a send promise its stamp, all others of a host its next timestamp
 abbrev pub host_be : Option Ts → ℕ → ℕ
@@ -31,23 +27,6 @@ abbrev pub fields : Graph → ℕ → List Record → Record → Fields
 fields graph node own r =
     if is_host graph node then record { be = host_be r.step.stamped (next (r ∷ own)); commit = promise graph node (r ∷ own) }
     else record { be = barrier_at plane.BestEffort graph node (r ∷ own); commit = barrier_at plane.Commit graph node (r ∷ own) }
-
--- a number as a timestamp
-abbrev pub ts_of : ℕ → Ts
-ts_of n = record { 0 = n }
-
--- a best-effort message to one receiver of a scattering
-abbrev pub message_to : HostId → Ts → Fields → (HostId × List ℕ) → Packet
-message_to src ts f dest =
-    record { kind = Plain; src = src; dst = dest.0; ts = ts; be = ts_of f.be; commit = ts_of f.commit; body = dest.1 }
-
--- a packet that goes on, with the fields of the half that passes it on
-abbrev pub forwarded : Fields → Packet → Packet
-forwarded f p = record p { be = ts_of f.be; commit = ts_of f.commit }
-
--- a packet that carries its two barriers alone
-abbrev pub beacon : Fields → Packet
-beacon f = record { kind = Beacon; src = record { 0 = 0 }; dst = record { 0 = 0 }; ts = ts_of 0; be = ts_of f.be; commit = ts_of f.commit; body = [] }
 
 -- a send owes a message to each receiver, in listed order
 abbrev pub owed_by_send : HostId → Fields → List (HostId × List ℕ) → Option Ts → List Packet
@@ -78,27 +57,13 @@ beacons_of graph node dropped f _ = []
 abbrev pub beacons : Graph → ℕ → List Record → Record → List (LinkId × Packet)
 beacons graph node own r = beacons_of graph node (known_drops (r ∷ own)) (fields graph node own r) r.event
 
--- a packet before others, where it has a way
-abbrev pub on_way : Option LinkId → Packet → List (LinkId × Packet) → List (LinkId × Packet)
-on_way None p puts = puts
-on_way (Some l) p puts = (l, p) ∷ puts
-
--- the packets that have a way, each on its link
-abbrev pub routed : Graph → List LinkId → ℕ → List Packet → List (LinkId × Packet)
-routed graph dropped node [] = []
-routed graph dropped node (p ∷ ps) = on_way (route graph dropped node p.src.0 p.dst.0) p (routed graph dropped node ps)
-
--- how many packets have no way
-abbrev pub lost : Graph → List LinkId → ℕ → List Packet → ℕ
-lost graph dropped node packets = count_by (λ p. is_none (route graph dropped node p.src.0 p.dst.0)) packets
-
 -- what the record puts, in order: the owed packets that have a way, then the beacons
 abbrev pub put : Graph → ℕ → List Record → Record → List (LinkId × Packet)
-put graph node own r = routed graph (known_drops (r ∷ own)) node (owed graph node own r) ++ beacons graph node own r
+put graph node own r = routed (route graph (known_drops (r ∷ own)) node) (owed graph node own r) ++ beacons graph node own r
 
 -- how many owed packets have no way
 abbrev pub unrouted : Graph → ℕ → List Record → Record → ℕ
-unrouted graph node own r = lost graph (known_drops (r ∷ own)) node (owed graph node own r)
+unrouted graph node own r = lost (route graph (known_drops (r ∷ own)) node) (owed graph node own r)
 
 -- the control messages that the record puts: none are built yet
 abbrev pub control : Graph → ℕ → List Record → Record → List Addressed

@@ -1,16 +1,16 @@
 -- What a node received, and the moments of its in-links, from its own records.
-use Rattle.std.specs.Prelude.{ℕ, ◌==◌, ◌&&◌, if◌then◌else◌, Bool, true, false, List, [], ◌∷◌, ◌++◌, Option, None, Some}
+use Rattle.std.specs.Prelude.{ℕ, ◌==◌, ◌&&◌, if◌then◌else◌, List, [], ◌∷◌, ◌++◌, Option, None, Some}
 use Rattle.pipe_base.specs.declared.name.LinkId.{LinkId}
-use Rattle.pipe_base.specs.declared.name.Ts.{Ts}
 use Rattle.pipe_base.specs.declared.control.Announced.{Announced}
 use Rattle.pipe_base.specs.declared.packet.Packet.{Packet}
 use Rattle.pipe_base.specs.declared.packet.Plane.{Plane}
 use Rattle.pipe_base.specs.declared.step.Step.{Step}
 use Rattle.pipe_base.specs.Graph.{Graph, ins_of}
-use Rattle.pipe_base.specs.Moment.{Moment, Received, Counted, WentDown, Dropped, is_up}
+use Rattle.pipe_base.specs.Moment.{Moment, is_up, keeps_links, with_received, with_downed, with_dropped}
+use Rattle.pipe_base.specs.Silence.{QuietCall, Took as TookOn, Ticked}
 use Rattle.pipe_base.specs.Barrier.{barrier}
 use Rattle.pipe_model.specs.declared.event.Event.{Event}
-use Rattle.pipe_model.specs.declared.event.Event.TheVariants.{Take}
+use Rattle.pipe_model.specs.declared.event.Event.TheVariants.{Take, Tick}
 use Rattle.pipe_model.specs.declared.record.Record.{Record}
 use Rattle.pipe_model.specs.declared.record.Took.{Took}
 use Rattle.pipe_model.specs.declared.record.Took.TheVariants.{Link}
@@ -25,29 +25,6 @@ abbrev pub received_of : List Moment → Event → Took → Option (ℕ × Packe
 received_of past (Take link place keep) took = taken_from past link.0 took
 received_of past _ took = None
 
--- the step takes no link out of use
-abbrev pub keeps_links : List (LinkId × Ts) → List LinkId → Bool
-keeps_links [] [] = true
-keeps_links _ _ = false
-
--- a received packet is looked at by itself only where the step takes no link out of use
-abbrev pub receipt : Bool → (ℕ × Packet) → Moment
-receipt true q = Received q.0 q.1.be.0 q.1.commit.0
-receipt false q = Counted q.0 q.1.be.0 q.1.commit.0
-
--- the moments of a step, one kind after the other
-abbrev pub with_received : Bool → Option (ℕ × Packet) → List Moment → List Moment
-with_received looked None past = past
-with_received looked (Some q) past = receipt looked q ∷ past
-
-abbrev pub with_downed : List (LinkId × Ts) → List Moment → List Moment
-with_downed [] past = past
-with_downed (d ∷ ds) past = with_downed ds (WentDown d.0.0 ∷ past)
-
-abbrev pub with_dropped : List LinkId → List Moment → List Moment
-with_dropped [] past = past
-with_dropped (l ∷ ls) past = with_dropped ls (Dropped l.0 ∷ past)
-
 -- the moments of a step: the packet received, then each link that went down, then each that was dropped
 abbrev pub moments_after : List Moment → Event → Took → Step → List Moment
 moments_after past event took step =
@@ -61,6 +38,17 @@ moments_of (r ∷ own) = moments_after (moments_of own) r.event r.took r.step
 -- what the record received, after the node's own records before it
 abbrev pub received : List Record → Record → Option (ℕ × Packet)
 received own r = received_of (moments_of own) r.event r.took
+
+-- what the silence of in-links rests on in a record: the link on which it received, the reading of its tick
+abbrev pub with_quiet : Option (ℕ × Packet) → Event → List QuietCall → List QuietCall
+with_quiet None (Tick node now) past = Ticked now.0 ∷ past
+with_quiet (Some q) event past = TookOn q.0 ∷ past
+with_quiet _ event past = past
+
+-- the receipts and ticks of a node, from its own records
+abbrev pub quiet_calls : List Record → List QuietCall
+quiet_calls [] = []
+quiet_calls (r ∷ own) = with_quiet (received own r) r.event (quiet_calls own)
 
 -- the node's barrier in a plane after its own records
 abbrev pub barrier_at : Plane → Graph → ℕ → List Record → ℕ

@@ -24,7 +24,9 @@ use Rattle.pipe_model.specs.declared.record.Took.{Took}
 use Rattle.pipe_model.specs.declared.record.Took.TheVariants.{Link}
 use Rattle.pipe_model.specs.Acting.{is_own, own}
 use Rattle.pipe_model.specs.Clock.{next}
-use Rattle.pipe_model.specs.Duties.{Fields, fields, message_to, forwarded, beacon, owed_by_send, owed_by_take, owed_of, owed, beacons_of, beacons, on_way, routed}
+use Rattle.pipe_base.specs.Packets.{Fields, message_to, forwarded, beacon}
+use Rattle.pipe_base.specs.Ways.{on_way, routed}
+use Rattle.pipe_model.specs.Duties.{fields, owed_by_send, owed_by_take, owed_of, owed, beacons_of, beacons}
 use Rattle.pipe_model.specs.Event.{IsBuilt}
 use Rattle.pipe_model.specs.Got.{is_beacon, key_of}
 use Rattle.pipe_model.specs.Moments.{received, received_of, taken_from, moments_of, known_drops}
@@ -62,11 +64,10 @@ on_way_all : (P : Packet → Type 0) (o : Option LinkId) (p : Packet) (puts : Li
 on_way_all P None p puts here all = all
 on_way_all P (Some l) p puts here all = All-cons (λ (q : LinkId × Packet). P q.1) (l, p) puts here all
 
-routed_all : (P : Packet → Type 0) (graph : Graph) (dropped : List LinkId) (node : ℕ) (ps : List Packet) → All P ps → All (λ q. P q.1) (routed graph dropped node ps)
-routed_all P graph dropped node [] all = All-nil (λ (q : LinkId × Packet). P q.1)
-routed_all P graph dropped node (p ∷ ps) all =
-    on_way_all P (route graph dropped node p.src.0 p.dst.0) p (routed graph dropped node ps) (All-head P p ps all)
-    (routed_all P graph dropped node ps (All-tail P p ps all))
+routed_all : (P : Packet → Type 0) (way : ℕ → ℕ → Option LinkId) (ps : List Packet) → All P ps → All (λ q. P q.1) (routed way ps)
+routed_all P way [] all = All-nil (λ (q : LinkId × Packet). P q.1)
+routed_all P way (p ∷ ps) all =
+    on_way_all P (way p.src.0 p.dst.0) p (routed way ps) (All-head P p ps all) (routed_all P way ps (All-tail P p ps all))
 
 -- a beacon is no message
 beacon_sent : (past : List Record) (f : Fields) → IsSent past (beacon f)
@@ -136,8 +137,8 @@ puts_of_own : (graph : Graph) (past : List Record) (r : Record) (n : ℕ) → Is
 puts_of_own graph past r n step mine sent =
     let o : List Record = own graph n past in
     subst (λ (puts : List (LinkId × Packet)). All (λ (q : LinkId × Packet). IsSent (r ∷ past) q.1) puts) (sym (step.node n mine).put_is)
-    (All-append (λ (q : LinkId × Packet). IsSent (r ∷ past) q.1) (routed graph (known_drops (r ∷ o)) n (owed graph n o r)) (beacons graph n o r)
-    (routed_all (IsSent (r ∷ past)) graph (known_drops (r ∷ o)) n (owed graph n o r)
+    (All-append (λ (q : LinkId × Packet). IsSent (r ∷ past) q.1) (routed (route graph (known_drops (r ∷ o)) n) (owed graph n o r)) (beacons graph n o r)
+    (routed_all (IsSent (r ∷ past)) (route graph (known_drops (r ∷ o)) n) (owed graph n o r)
     (owed_all graph past r n (fields graph n o r) r.event step mine refl sent))
     (beacons_all (r ∷ past) graph n (known_drops (r ∷ o)) (fields graph n o r) r.event))
 

@@ -1,0 +1,28 @@
+-- The packets that nodes make, and the two barriers that they carry.
+use Rattle.std.specs.Prelude.{ℕ, List, []}
+use Rattle.pipe_base.specs.declared.name.HostId.{HostId}
+use Rattle.pipe_base.specs.declared.name.Ts.{Ts}
+use Rattle.pipe_base.specs.declared.packet.Packet.{Packet}
+use Rattle.pipe_base.specs.declared.packet.PacketKind.TheVariants.{Beacon, Plain}
+
+-- the two barriers of a packet
+pub record Fields : Type 0 where
+  pub be : ℕ
+  pub commit : ℕ
+
+-- a number as a timestamp
+abbrev pub ts_of : ℕ → Ts
+ts_of n = record { 0 = n }
+
+-- a best-effort message to one receiver of a scattering
+abbrev pub message_to : HostId → Ts → Fields → (HostId × List ℕ) → Packet
+message_to src ts f dest =
+    record { kind = Plain; src = src; dst = dest.0; ts = ts; be = ts_of f.be; commit = ts_of f.commit; body = dest.1 }
+
+-- a packet that goes on, with the fields of the half that passes it on
+abbrev pub forwarded : Fields → Packet → Packet
+forwarded f p = record p { be = ts_of f.be; commit = ts_of f.commit }
+
+-- a packet that carries its two barriers alone
+abbrev pub beacon : Fields → Packet
+beacon f = record { kind = Beacon; src = record { 0 = 0 }; dst = record { 0 = 0 }; ts = ts_of 0; be = ts_of f.be; commit = ts_of f.commit; body = [] }
