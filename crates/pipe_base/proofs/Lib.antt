@@ -1,4 +1,5 @@
 pub mod BarrierLaws
 pub mod KeyOrder
 pub mod MessageLaws
+pub mod WayLaws
 pub mod Slices

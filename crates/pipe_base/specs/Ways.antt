@@ -1,7 +1,9 @@
 -- Packets that find a way. A router answers for a sender and a receiver the link on which a packet is put, or none.
-use Rattle.std.specs.Prelude.{ℕ, List, [], ◌∷◌, Option, None, Some, count_by, is_none}
+use Rattle.std.specs.Prelude.{◌≡◌, ℕ, ◌+◌, List, [], ◌∷◌, ◌++◌, Option, None, Some, map, count_by, is_none}
 use Rattle.pipe_base.specs.declared.name.LinkId.{LinkId}
 use Rattle.pipe_base.specs.declared.packet.Packet.{Packet}
+use Rattle.pipe_base.specs.declared.step.Step.{Step}
+use Rattle.pipe_base.specs.Packets.{Fields, beacon}
 
 -- a packet before others, where it has a way
 abbrev pub on_way : Option LinkId → Packet → List (LinkId × Packet) → List (LinkId × Packet)
@@ -16,3 +18,15 @@ routed way (p ∷ ps) = on_way (way p.src.0 p.dst.0) p (routed way ps)
 -- how many packets have no way
 abbrev pub lost : (ℕ → ℕ → Option LinkId) → List Packet → ℕ
 lost way packets = count_by (λ p. is_none (way p.src.0 p.dst.0)) packets
+
+-- the step with these packets put on their ways, and those without one counted
+abbrev pub with_ways : (ℕ → ℕ → Option LinkId) → List Packet → Step → Step
+with_ways way packets step = record step { put = step.put ++ routed way packets; unrouted = step.unrouted + lost way packets }
+
+-- the step with a beacon put on each of these links
+abbrev pub with_beacons : List LinkId → Fields → Step → Step
+with_beacons links f step = record step { put = step.put ++ map (λ l. (l, beacon f)) links }
+
+-- nothing but what was put, or counted as without a way, has changed
+abbrev pub PutsAlone : Step → Step → Type 0
+PutsAlone old new = new ≡ record old { put = new.put; unrouted = new.unrouted }

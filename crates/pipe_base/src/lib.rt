@@ -11,6 +11,7 @@ mod message;
 mod name;
 mod outside;
 mod packet;
+mod puts;
 mod router;
 mod steady;
 mod step;

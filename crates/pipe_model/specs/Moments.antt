@@ -1,6 +1,7 @@
 -- What a node received, and the moments of its in-links, from its own records.
 use Rattle.std.specs.Prelude.{ℕ, ◌==◌, ◌&&◌, if◌then◌else◌, List, [], ◌∷◌, ◌++◌, Option, None, Some}
 use Rattle.pipe_base.specs.declared.name.LinkId.{LinkId}
+use Rattle.pipe_base.specs.declared.name.Ts.{Ts}
 use Rattle.pipe_base.specs.declared.control.Announced.{Announced}
 use Rattle.pipe_base.specs.declared.packet.Packet.{Packet}
 use Rattle.pipe_base.specs.declared.packet.Plane.{Plane}
@@ -39,16 +40,21 @@ moments_of (r ∷ own) = moments_after (moments_of own) r.event r.took r.step
 abbrev pub received : List Record → Record → Option (ℕ × Packet)
 received own r = received_of (moments_of own) r.event r.took
 
--- what the silence of in-links rests on in a record: the link on which it received, the reading of its tick
-abbrev pub with_quiet : Option (ℕ × Packet) → Event → List QuietCall → List QuietCall
-with_quiet None (Tick node now) past = Ticked now.0 ∷ past
-with_quiet (Some q) event past = TookOn q.0 ∷ past
-with_quiet _ event past = past
+-- the reading of a tick
+abbrev pub tick_of : Event → Option Ts
+tick_of (Tick node now) = Some now
+tick_of _ = None
+
+-- what the silence of in-links rests on in a record: the link on which it received, or the reading of its tick
+abbrev pub with_quiet : Option (ℕ × Packet) → Option Ts → List QuietCall → List QuietCall
+with_quiet (Some q) tick past = TookOn q.0 ∷ past
+with_quiet None (Some now) past = Ticked now.0 ∷ past
+with_quiet None None past = past
 
 -- the receipts and ticks of a node, from its own records
 abbrev pub quiet_calls : List Record → List QuietCall
 quiet_calls [] = []
-quiet_calls (r ∷ own) = with_quiet (received own r) r.event (quiet_calls own)
+quiet_calls (r ∷ own) = with_quiet (received own r) (tick_of r.event) (quiet_calls own)
 
 -- the node's barrier in a plane after its own records
 abbrev pub barrier_at : Plane → Graph → ℕ → List Record → ℕ
