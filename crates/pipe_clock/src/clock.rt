@@ -1,7 +1,5 @@
 // The clock of a host.
-ghost use Rattle.std.specs.Prelude.{◌≡◌, ◌+◌, ◌<◌, ◌≤◌, ◌^◌, max, IfErr, IfOk};
-ghost use Rattle.pipe_base.specs.Clock.{stamp_at};
-ghost use Rattle.pipe_base.specs.Limits.{last_stamp};
+ghost use Rattle.std.specs.Prelude.{◌≡◌, ◌+◌, ◌-◌, ◌^◌, max, min, IfErr, IfOk};
 ghost use Rattle.pipe_clock.specs.Stamping.{IsRefused, IsStamped};
 
 use pipe_base::{LAST_STAMP, Ts};
@@ -52,11 +50,10 @@ impl HostClock {
         self.next = Ts(self.next.0.max(now.0));
     }
 
-    /// A message with this timestamp was stamped or delivered.
+    /// A message with this timestamp was delivered. Timestamps of messages are far below the end of the type.
     pub fn delivered(&mut self, ts: Ts)
-        requires { ts.0 + 1 < 2 ^ 64 }
-        ensures { self.new.next.0 ≡ max self.old.next.0 (ts.0 + 1) }
+        ensures { self.new.next.0 ≡ max self.old.next.0 (min (ts.0 + 1) (2 ^ 64 - 1)) }
     {
-        self.next = Ts(self.next.0.max(ts.0 + 1));
+        self.next = Ts(self.next.0.max(ts.0.saturating_add(1)));
     }
 }

@@ -1,13 +1,11 @@
-// A library with one function.
+//! One host: it stamps what it sends, holds what it receives until the barrier passes it, and logs that in the total order.
 #![tactic(auto)]
 
-ghost use Rattle.std.specs.Prelude.{◌≡◌};
-ghost use Rattle.pipe_host.specs.Echo.{echo_of};
+mod fates;
+mod host;
+mod times;
 
-// The `ensures` clause is the contract: what `echo` returns is `echo_of` of its argument, a definition
-// in `specs/Echo.antt`, which a caller's clause can cite too.
-pub fn echo(x: usize) -> usize
-    ensures { result ≡ echo_of x }
-{
-    x
-}
+pub use host::Host;
+
+#[cfg(test)]
+mod tests;

@@ -1,13 +1,9 @@
-// A library with one function.
+//! One half of a switch: it passes packets on with its own barriers.
 #![tactic(auto)]
 
-ghost use Rattle.std.specs.Prelude.{◌≡◌};
-ghost use Rattle.pipe_switch.specs.Echo.{echo_of};
+mod half;
 
-// The `ensures` clause is the contract: what `echo` returns is `echo_of` of its argument, a definition
-// in `specs/Echo.antt`, which a caller's clause can cite too.
-pub fn echo(x: usize) -> usize
-    ensures { result ≡ echo_of x }
-{
-    x
-}
+pub use half::Half;
+
+#[cfg(test)]
+mod tests;

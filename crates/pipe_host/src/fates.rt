@@ -1,0 +1,46 @@
+// What becomes of the message that a packet brings, and how it is held and let go.
+ghost use Rattle.std.specs.Prelude.{◌≡◌, ℕ, Some, OnErr, OnOk};
+ghost use Rattle.pipe_base.specs.Messages.{Messages};
+ghost use Rattle.pipe_model.specs.Fate.{fate_for, with_held};
+ghost use Rattle.pipe_model.specs.Got.{carries, key_of};
+ghost use Rattle.pipe_host.specs.Host.{IsFresh};
+
+use pipe_base::{Fate, Key, NoMemory, Packet, PacketKind};
+use pipe_reorder::Reorder;
+
+/// Whether the packet carries a best-effort message.
+pub fn is_message(kind: PacketKind) -> bool
+    ensures { result ≡ carries BestEffort kind }
+{
+    matches!(kind, PacketKind::Plain)
+}
+
+pub fn key_of(packet: &Packet) -> Key
+    ensures { result ≡ key_of packet.now }
+{
+    Key {
+        ts: packet.ts,
+        src: packet.src,
+    }
+}
+
+/// Holds the message of a packet whose fate is held.
+pub fn hold(held: &mut Reorder, fate: Option<Fate>, packet: &Packet) -> Result<(), NoMemory>
+    ensures ok { OnOk result (held.new ≡ record held.old { messages = with_held fate (Some packet.now) held.old.messages }) }
+    ensures err { OnErr result (held.new ≡ held.old) }
+{
+    match fate {
+        Some(Fate::Held) => held.hold(key_of(packet), packet.body.try_clone()?),
+        _ => Ok(()),
+    }
+}
+
+/// Holds no more what `hold` holds for this packet.
+pub fn let_go(held: &mut Reorder, fate: Option<Fate>, packet: &Packet)
+    ensures { (messages : Messages) → IsFresh fate packet.now messages → held.old.messages ≡ with_held fate (Some packet.now) messages → held.new ≡ record held.old { messages = messages } }
+{
+    match fate {
+        Some(Fate::Held) => held.unhold(key_of(packet)),
+        _ => {}
+    }
+}

@@ -1,0 +1,19 @@
+use Rattle.std.proofs.Common.{sym, ◌∙◌}
+use Rattle.pipe_base.specs.Graph.{ins_of}
+use Rattle.pipe_model.specs.Moments.{moments_of, quiet_calls, received}
+use Rattle.pipe_links.proofs.Follows.{none_from, receipt_from, received_follows, tick_follows}
+use Rattle.pipe_links.proofs.links.follow.Goals as goal
+
+pub returns-in-Some : goal.returns-in-Some
+returns-in-Some c = λ graph node own stands comes step.
+    let r = c.args.«record».now in
+    let found = receipt_from (received own r) c.in-Some.receipt (c.in-Some.ensures graph node own stands comes) in
+    received_follows graph node own r found.0 c.in-Some.receipt c.receive.new.self step found.1 found.2
+    (c.receive.ensures (ins_of graph node) graph.patience (moments_of own) (quiet_calls own) stands)
+
+pub returns-in-Some-tick_of : goal.returns-in-Some-tick_of
+returns-in-Some-tick_of c = λ graph node own stands comes step.
+    let r = c.args.«record».now in
+    tick_follows graph node own r c.in-Some-tick_of.now c.tick.new.self step (none_from (received own r) (c.in-None.ensures graph node own stands comes))
+    (sym c.in-Some-tick_of.ensures)
+    (c.tick.ensures (ins_of graph node) graph.patience (moments_of own) (quiet_calls own) stands)

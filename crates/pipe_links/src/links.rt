@@ -1,0 +1,219 @@
+// The links of one node.
+ghost use Rattle.std.specs.Prelude.{◌≡◌, ◌&&◌, ◌∷◌, ◌<◌, [], ℕ, List, true, IfOk, OnErr, OnOk};
+ghost use Rattle.std.specs.Option.{option_map};
+ghost use Rattle.pipe_base.specs.Graph.{Graph, ins_of};
+ghost use Rattle.pipe_base.specs.Moment.{Received, has_link, is_up, with_downed};
+ghost use Rattle.pipe_base.specs.Moment as moment;
+ghost use Rattle.pipe_base.specs.ShortestRoute.{route};
+ghost use Rattle.pipe_base.specs.Silence.{silent_marks};
+ghost use Rattle.pipe_base.specs.Ways.{PutsAlone, with_beacons, with_ways};
+ghost use Rattle.pipe_barrier.specs.Registers.{AreBarriers};
+ghost use Rattle.pipe_barrier.specs.Registers as registers;
+ghost use Rattle.pipe_model.specs.declared.record.Record.{Record as ARecord};
+ghost use Rattle.pipe_model.specs.Acting.{ComesIn};
+ghost use Rattle.pipe_model.specs.Moments.{moments_of, quiet_calls, received, tick_of};
+ghost use Rattle.pipe_model.specs.Run.{IsNodeStep};
+ghost use Rattle.pipe_links.specs.Links.{AreBarriersAt, InsStand, Stands, receipt_of};
+
+use pipe_barrier::{Barriers, InLinks, Registers};
+use pipe_base::{DownList, LinkId, List, NoMemory, NodeId, Packet, Step, Ts};
+use pipe_model::{Event, Record, Took};
+use pipe_route::Routes;
+use pipe_topo::{LinkSet, Topology};
+use std::alloc::Global;
+
+/// What one node keeps of its links.
+#[derive(Clone, Drop)]
+pub struct Links {
+    node: NodeId,
+    ins: InLinks,
+    outs: List<LinkId>,
+    routes: Routes,
+}
+
+/// A packet was received on the link with these barriers.
+#[derive(Clone, Copy)]
+pub struct Receipt {
+    link: LinkId,
+    be: Ts,
+    commit: Ts,
+}
+
+impl Links {
+    /// The links of a node to which nothing has happened.
+    pub fn new(alloc: Global, topology: &Topology, node: NodeId) -> Result<Links, NoMemory>
+        requires { node.0 < topology.now.nodes }
+        ensures { IfOk result (Stands topology.now node.0 []) }
+    {
+        let dropped = LinkSet::none(alloc, topology.links())?;
+        Ok(Links {
+            node,
+            ins: InLinks::new(alloc, topology.ins(node), topology.patience())?,
+            outs: list_of(alloc, topology.outs(node))?,
+            routes: Routes::build(alloc, topology, node, &dropped)?,
+        })
+    }
+
+    pub fn node(&self) -> NodeId
+        ensures { result ≡ self.now.node }
+    {
+        self.node
+    }
+
+    pub fn routes(&self) -> &Routes
+        ensures { result.now ≡ self.now.routes }
+    {
+        &self.routes
+    }
+
+    /// The registers of the in-links.
+    pub fn registers(&self) -> &Registers
+        ensures value { result.now ≡ self.now.ins.registers }
+        ensures stands { (graph : Graph) (node : ℕ) (own : List ARecord) → Stands graph node own self.now
+            → registers.Stands (ins_of graph node) result.now (moments_of own) }
+    {
+        self.ins.registers()
+    }
+
+    /// Whether the link is an in-link that is up.
+    pub fn is_up(&self, link: LinkId) -> bool
+        ensures { (graph : Graph) (node : ℕ) (own : List ARecord) → Stands graph node own self.now
+            → result ≡ (has_link link.0 (ins_of graph node) && is_up (moments_of own) link.0) }
+    {
+        self.ins.is_up(link)
+    }
+
+    /// The two barriers of the node.
+    pub fn barriers(&self) -> Barriers
+        ensures be { result.be.0 ≡ self.now.ins.registers.be }
+        ensures commit { result.commit.0 ≡ self.now.ins.registers.commit }
+        ensures are { (graph : Graph) (node : ℕ) (own : List ARecord) → Stands graph node own self.now → AreBarriersAt graph node own result }
+    {
+        self.ins.barriers()
+    }
+
+    /// The barriers that a packet received on the link would lead to.
+    pub fn barriers_with(&self, link: LinkId, packet: &Packet) -> Barriers
+        ensures { (graph : Graph) (node : ℕ) (own : List ARecord) → Stands graph node own self.now
+            → AreBarriers (ins_of graph node) (Received link.0 packet.now.be.0 packet.now.commit.0 ∷ moments_of own) result }
+    {
+        self.ins.barriers_with(link, packet.be, packet.commit)
+    }
+
+    /// The in-links that go down at a tick that reads `now`, each with its frozen value.
+    pub fn silent_marks(&self, alloc: Global, now: Ts) -> Result<DownList, NoMemory>
+        ensures { IfOk result (λ marks. (graph : Graph) (node : ℕ) (own : List ARecord) → Stands graph node own self.now
+            → marks ≡ silent_marks graph.patience (ins_of graph node) (moments_of own) (quiet_calls own) now.0) }
+    {
+        self.ins.silent_marks(alloc, now)
+    }
+
+    /// The barriers after these links have gone down, one after the other.
+    pub fn barriers_without(&self, marks: &DownList) -> Result<Barriers, NoMemory>
+        ensures { IfOk result (λ barriers. (graph : Graph) (node : ℕ) (own : List ARecord) → Stands graph node own self.now
+            → AreBarriers (ins_of graph node) (with_downed marks.now (moments_of own)) barriers) }
+    {
+        self.ins.barriers_without(marks)
+    }
+
+    /// Puts a packet on its way, or counts it where it has none.
+    pub fn put_on_way(&self, packet: Packet, step: &mut Step) -> Result<(), NoMemory>
+        requires room { step.old.unrouted < 4294967295 }
+        ensures ok { OnOk result ((graph : Graph) (node : ℕ) (own : List ARecord) → Stands graph node own self.now
+            → step.new ≡ with_ways (route graph [] node) (packet ∷ []) step.old) }
+        ensures err { OnErr result (step.new ≡ step.old) }
+    {
+        step.put_on_way(&self.routes, packet)
+    }
+
+    /// Puts a beacon with these barriers on each link out of the node.
+    pub fn put_beacons(
+        &self,
+        alloc: Global,
+        be: Ts,
+        commit: Ts,
+        step: &mut Step,
+    ) -> Result<(), NoMemory>
+        ensures ok { OnOk result (step.new ≡ with_beacons self.now.outs (record { be = be.0; commit = commit.0 }) step.old) }
+        ensures err { OnErr result (PutsAlone step.old step.new) }
+    {
+        step.put_beacons(alloc, self.outs.as_slice(), be, commit)
+    }
+
+    /// Takes over what a record of the node's own did to its in-links. Takes no memory.
+    pub fn follow(&mut self, record: &Record)
+        ensures { (graph : Graph) (node : ℕ) (own : List ARecord) → Stands graph node own self.old → ComesIn graph node «record».now.event
+            → IsNodeStep graph node own «record».now → Stands graph node («record».now ∷ own) self.new }
+    {
+        follow(&mut self.ins, record);
+    }
+
+    pub fn try_clone(&self) -> Result<Links, NoMemory>
+        ensures { IfOk result (λ copy. copy ≡ self.now) }
+    {
+        Ok(Links {
+            node: self.node,
+            ins: self.ins.try_clone()?,
+            outs: copy_links(&self.outs)?,
+            routes: self.routes.try_clone()?,
+        })
+    }
+}
+
+fn list_of(alloc: Global, links: &[LinkId]) -> Result<List<LinkId>, NoMemory>
+    ensures { IfOk result (λ list. list ≡ links.now) }
+{
+    Ok(List::from_vec(links.to_vec(alloc)?))
+}
+
+fn copy_links(links: &List<LinkId>) -> Result<List<LinkId>, NoMemory>
+    ensures { IfOk result (λ copy. copy ≡ links.now) }
+{
+    Ok(links.clone()?)
+}
+
+/// Takes over what a record did to the in-links.
+fn follow(ins: &mut InLinks, record: &Record)
+    ensures { (graph : Graph) (node : ℕ) (own : List ARecord) → InsStand graph node own ins.old → ComesIn graph node «record».now.event
+        → IsNodeStep graph node own «record».now → InsStand graph node («record».now ∷ own) ins.new }
+{
+    match received(ins, record) {
+        Some(receipt) => ins.receive(receipt.link, receipt.be, receipt.commit),
+        None => {
+            if let Some(now) = tick_of(&record.event) {
+                ins.tick(now, &record.step.downed);
+            }
+        }
+    }
+}
+
+/// What the record received: a packet that was taken from a link that is up.
+fn received(ins: &InLinks, record: &Record) -> Option<Receipt>
+    ensures { (graph : Graph) (node : ℕ) (own : List ARecord) → InsStand graph node own ins.now → ComesIn graph node «record».now.event
+        → result ≡ option_map receipt_of (received own «record».now) }
+{
+    let Event::Take { link, .. } = &record.event else {
+        return None;
+    };
+    let Took::Link { link: from, packet } = &record.took else {
+        return None;
+    };
+    if from.0 != link.0 || !ins.is_up(*link) {
+        return None;
+    }
+    Some(Receipt {
+        link: *link,
+        be: packet.be,
+        commit: packet.commit,
+    })
+}
+
+/// The reading of a tick.
+fn tick_of(event: &Event) -> Option<Ts>
+    ensures { result ≡ tick_of event.now }
+{
+    match event {
+        Event::Tick { now, .. } => Some(*now),
+        _ => None,
+    }
+}

@@ -1,0 +1,33 @@
+-- What a half of a switch keeps, and what it stands for.
+use Rattle.std.specs.Prelude.{◌≡◌, ℕ, Bool, true, List, ◌∷◌}
+use Rattle.pipe_base.specs.declared.name.LinkId.{LinkId}
+use Rattle.pipe_base.specs.declared.name.NodeId.{NodeId}
+use Rattle.pipe_base.specs.declared.name.Ts.{Ts}
+use Rattle.pipe_base.specs.declared.packet.Packet.{Packet}
+use Rattle.pipe_base.specs.declared.step.Step.{Step}
+use Rattle.pipe_base.specs.Graph.{Graph, is_half}
+use Rattle.pipe_links.specs.Links as links
+use Rattle.pipe_model.specs.declared.event.Event.TheVariants.{Take, Tick}
+use Rattle.pipe_model.specs.declared.record.Record.{Record}
+use Rattle.pipe_model.specs.declared.record.Took.TheVariants.{Nothing, Link}
+use Rattle.pipe_model.specs.Acting.{ComesIn}
+use Rattle.pipe_model.specs.Run.{IsNodeStep}
+use Rattle.pipe_switch.specs.declared.half.Half.{Half}
+
+-- What is kept is what the rules say of this half after its own records.
+pub record Stands (graph : Graph) (node : ℕ) (own : List Record) (k : Half) : Type 0 where
+  pub half : is_half graph node ≡ true
+  pub links_are : links.Stands graph node own k.links
+
+-- a packet was taken from a link
+abbrev pub taken : LinkId → Packet → ℕ → Bool → Step → Record
+taken link p place keep step = record { event = Take link place keep; took = Link link p; step = step }
+
+-- a node's clock read this
+abbrev pub ticked : NodeId → Ts → Step → Record
+ticked node now step = record { event = Tick node now; took = Nothing; step = step }
+
+-- The step is what the rules say of the record, and afterwards the half stands for its records with that one.
+pub record Does (graph : Graph) (node : ℕ) (own : List Record) (r : Record) (new : Half) : Type 0 where
+  pub rules : IsNodeStep graph node own r
+  pub stands : Stands graph node (r ∷ own) new

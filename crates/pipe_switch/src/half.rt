@@ -1,0 +1,157 @@
+// A half of a switch.
+ghost use Rattle.std.specs.Prelude.{◌≡◌, ◌∷◌, ◌<◌, [], ℕ, Bool, List, true, IfOk, OnErr, OnOk};
+ghost use Rattle.pipe_base.specs.Graph.{Graph, ins_of, is_half};
+ghost use Rattle.pipe_base.specs.Moment.{has_link};
+ghost use Rattle.pipe_base.specs.Packets.{forwarded};
+ghost use Rattle.pipe_base.specs.Step.{quiet_step};
+ghost use Rattle.pipe_barrier.specs.Registers as registers;
+ghost use Rattle.pipe_model.specs.declared.record.Record.{Record as ARecord};
+ghost use Rattle.pipe_model.specs.Acting.{ComesIn};
+ghost use Rattle.pipe_model.specs.Got.{is_beacon};
+ghost use Rattle.pipe_model.specs.Moments.{moments_of};
+ghost use Rattle.pipe_model.specs.Run.{IsNodeStep};
+ghost use Rattle.pipe_switch.specs.Half.{Does, Stands, taken, ticked};
+
+use pipe_barrier::{Barriers, Registers};
+use pipe_base::{LinkId, NoMemory, NodeId, Outcome, Packet, PacketKind, Step, Ts};
+use pipe_links::Links;
+use pipe_model::{Event, Record, Took};
+use pipe_topo::Topology;
+use std::alloc::Global;
+
+/// A half of a switch: the registers of the links into it, and the ways out of it. Contracts speak of any records of its
+/// own for which it stands.
+#[derive(Clone, Drop)]
+pub struct Half {
+    alloc: Global,
+    links: Links,
+}
+
+impl Half {
+    /// A half to which nothing has happened.
+    pub fn new(alloc: Global, topology: &Topology, node: NodeId) -> Result<Half, NoMemory>
+        requires node { node.0 < topology.now.nodes }
+        requires half { is_half topology.now node.0 ≡ true }
+        ensures { IfOk result (Stands topology.now node.0 []) }
+    {
+        Ok(Half {
+            alloc,
+            links: Links::new(alloc, topology, node)?,
+        })
+    }
+
+    /// The registers of the links into the half.
+    pub fn registers(&self) -> &Registers
+        ensures { (graph : Graph) (node : ℕ) (own : List ARecord) → Stands graph node own self.now
+            → registers.Stands (ins_of graph node) result.now (moments_of own) }
+    {
+        self.links.registers()
+    }
+
+    /// Works out what the taking of a packet from a link into the half does. Nothing changes. A packet on a link that is
+    /// not up is ignored; any other raises the registers, and goes on with the half's own barriers unless it is a beacon.
+    pub fn work_take(&self, link: LinkId, packet: &Packet) -> Result<Step, NoMemory>
+        ensures { IfOk result (λ step. (graph : Graph) (node : ℕ) (own : List ARecord) (place : ℕ) (keep : Bool) → Stands graph node own self.now
+            → has_link link.0 (ins_of graph node) ≡ true → IsNodeStep graph node own (taken link packet.now place keep step)) }
+    {
+        let mut step = Step::new(self.alloc);
+        if !self.links.is_up(link) {
+            step.outcome = Outcome::Ignored;
+            return Ok(step);
+        }
+        if !is_beacon(packet.kind) {
+            let barriers = self.links.barriers_with(link, packet);
+            let packet = forwarded(packet, barriers)?;
+            self.links.put_on_way(packet, &mut step)?;
+        }
+        Ok(step)
+    }
+
+    /// Works out what a tick does. Nothing changes. Links that were silent for the patience go down, and a beacon with the
+    /// barriers after that is put on each link out of the half.
+    pub fn work_tick(&self, now: Ts) -> Result<Step, NoMemory>
+        ensures { IfOk result (λ step. (graph : Graph) (node : NodeId) (own : List ARecord) → Stands graph node.0 own self.now
+            → IsNodeStep graph node.0 own (ticked node now step)) }
+    {
+        let mut step = Step::new(self.alloc);
+        step.downed = self.links.silent_marks(self.alloc, now)?;
+        let barriers = self.links.barriers_without(&step.downed)?;
+        self.links
+            .put_beacons(self.alloc, barriers.be, barriers.commit, &mut step)?;
+        Ok(step)
+    }
+
+    /// Takes over a record of the half's own. Takes no memory.
+    pub fn follow(&mut self, record: &Record)
+        ensures { (graph : Graph) (node : ℕ) (own : List ARecord) → Stands graph node own self.old → ComesIn graph node «record».now.event
+            → IsNodeStep graph node own «record».now → Stands graph node («record».now ∷ own) self.new }
+    {
+        self.links.follow(record);
+    }
+
+    /// Takes a packet from a link into the half. The step is empty first, and after want of memory, which changes nothing.
+    pub fn take(&mut self, link: LinkId, packet: Packet, step: &mut Step) -> Result<(), NoMemory>
+        ensures ok { OnOk result ((graph : Graph) (node : ℕ) (own : List ARecord) (place : ℕ) (keep : Bool) → Stands graph node own self.old
+            → has_link link.0 (ins_of graph node) ≡ true → Does graph node own (taken link packet place keep step.new) self.new) }
+        ensures err { OnErr result ((self.new ≡ self.old) × (step.new ≡ quiet_step Outcome.Ok)) }
+    {
+        *step = Step::new(self.alloc);
+        let record = Record {
+            event: Event::Take {
+                link,
+                place: 0,
+                keep: false,
+            },
+            step: self.work_take(link, &packet)?,
+            took: Took::Link { link, packet },
+        };
+        self.links.follow(&record);
+        *step = record.step;
+        Ok(())
+    }
+
+    /// The half's clock reads `now`. The step is empty first, and after want of memory, which changes nothing.
+    pub fn tick(&mut self, now: Ts, step: &mut Step) -> Result<(), NoMemory>
+        ensures ok { OnOk result ((graph : Graph) (node : NodeId) (own : List ARecord) → Stands graph node.0 own self.old
+            → Does graph node.0 own (ticked node now step.new) self.new) }
+        ensures err { OnErr result ((self.new ≡ self.old) × (step.new ≡ quiet_step Outcome.Ok)) }
+    {
+        *step = Step::new(self.alloc);
+        let record = Record {
+            event: Event::Tick {
+                node: self.links.node(),
+                now,
+            },
+            step: self.work_tick(now)?,
+            took: Took::Nothing,
+        };
+        self.links.follow(&record);
+        *step = record.step;
+        Ok(())
+    }
+
+    pub fn try_clone(&self) -> Result<Half, NoMemory>
+        ensures { IfOk result (λ copy. copy ≡ self.now) }
+    {
+        Ok(Half {
+            alloc: self.alloc,
+            links: self.links.try_clone()?,
+        })
+    }
+}
+
+/// The packet as the half passes it on: with the half's own barriers.
+fn forwarded(packet: &Packet, barriers: Barriers) -> Result<Packet, NoMemory>
+    ensures { IfOk result (λ copy. copy ≡ forwarded (record { be = barriers.be.0; commit = barriers.commit.0 }) packet.now) }
+{
+    let mut copy = packet.try_clone()?;
+    copy.be = barriers.be;
+    copy.commit = barriers.commit;
+    Ok(copy)
+}
+
+fn is_beacon(kind: PacketKind) -> bool
+    ensures { result ≡ is_beacon kind }
+{
+    matches!(kind, PacketKind::Beacon)
+}
