@@ -1,1 +1,4 @@
+pub mod Walk
 pub mod Standing
+pub mod Quieting
+pub mod InLinkLaws

@@ -1,7 +1,6 @@
 -- What is kept stands for one moment more, and what a search among the registers finds.
-use Rattle.std.proofs.Common.{◌≡◌, ℕ, ◌+◌, ◌-◌, ◌<◌, ◌≤◌, ◌==◌, ◌&&◌, ◌||◌, if◌then◌else◌, max, min, Bool, true, false, cond, not, Option, None, Some, unwrap_or, option_map, List, [], ◌∷◌, ◌++◌, length, get_or, take, drop, set, map, find, refl, sym, ap, ap₂, ◌∙◌, le_refl, le_of_lt, arith, eqb-true, length-take-le, get_or-drop, take_all, append-nil}
-use Rattle.std.proofs.lemmas.List.{length-map, get_or-append_right, get_or_default, at_drop_more, at_drop_all, drop_all}
-use Rattle.std.proofs.lemmas.List.Edits.{map_over_more}
+use Rattle.std.proofs.Common.{◌≡◌, ℕ, ◌+◌, ◌<◌, ◌≤◌, ◌==◌, ◌&&◌, if◌then◌else◌, max, min, Bool, true, false, cond, not, Option, None, Some, unwrap_or, option_map, List, [], ◌∷◌, ◌++◌, length, get_or, take, drop, map, find, refl, sym, ap, ap₂, ◌∙◌, arith}
+use Rattle.std.proofs.lemmas.List.{at_drop_more, at_drop_all}
 use Rattle.pipe_base.specs.declared.name.LinkId.{LinkId}
 use Rattle.pipe_base.specs.declared.name.Ts.{Ts}
 use Rattle.pipe_base.specs.declared.packet.Plane.{Plane}
@@ -14,6 +13,7 @@ use Rattle.pipe_barrier.specs.declared.register.Register.{Register}
 use Rattle.pipe_barrier.specs.declared.registers.Barriers.{Barriers}
 use Rattle.pipe_barrier.specs.Register.{register_of, moment_of, changed, register_after, lowered, is_counted, value_of, least_from}
 use Rattle.pipe_barrier.specs.Registers.{AreBarriers, Stands, kept_with}
+use Rattle.pipe_barrier.proofs.Walk.{read_ahead, found_first}
 
 -- ---- the registers
 
@@ -122,29 +122,6 @@ stands_after ins l change past links now old new stands now_is are = record {
 
 -- ---- the walk
 
--- what it reads at a place is what was there
-read_ahead : (f : Register → Register) (xs ys : List Register) (i : ℕ) (d : Register) → i < length xs
-    → ys ≡ map f (take i xs) ++ drop i xs → get_or ys i d ≡ get_or xs i d
-read_ahead f xs ys i d lt is = ap (λ (zs : List Register). get_or zs i d) is ∙ get_or-append_right (map f (take i xs)) (drop i xs) i i d size (le_refl i) ∙ at_start
-  where
-    size : length (map f (take i xs)) ≡ i
-    size = length-map (take i xs) f ∙ length-take-le i xs (le_of_lt lt)
-
-    at_start : get_or (drop i xs) (i - i) d ≡ get_or xs i d
-    at_start = get_or-drop i xs (i - i) d ∙ ap (λ n. get_or xs n d) (omega arith)
-
--- the registers up to a place are changed
-pub links_turn : (f : Register → Register) (xs ys : List Register) (i : ℕ) (d y : Register) → i < length xs → i < length ys
-    → ys ≡ map f (take i xs) ++ drop i xs → y ≡ f (get_or ys i d)
-    → set ys i y ≡ map f (take (i + 1) xs) ++ drop (i + 1) xs
-links_turn f xs ys i d y lt within is y_is =
-    let x : Register = get_or ys i d in
-    ap (set ys i) y_is ∙ map_over_more f xs ys i x lt is (get_or_default ys i d x within)
-
-pub links_at_end : (f : Register → Register) (xs ys : List Register) (i : ℕ) → length xs ≤ i → ys ≡ map f (take i xs) ++ drop i xs → ys ≡ map f xs
-links_at_end f xs ys i past_end is =
-    is ∙ ap₂ (λ (front rest : List Register). map f front ++ rest) (take_all i xs past_end) (drop_all i xs past_end) ∙ append-nil (map f xs)
-
 -- and the least of those that are still ahead is known from a value on
 pub least_turn : (plane : Plane) (f : Register → Register) (low now : Option ℕ) (xs : List Register) (i : ℕ) (d y : Register) → i < length xs
     → y ≡ f (get_or xs i d) → now ≡ lowered low (is_counted plane y) (value_of plane y)
@@ -178,21 +155,12 @@ walk_follows ins l change past links old new be commit i stands past_end be_walk
 
 -- ---- a search among the registers
 
-record_of : (l m : LinkId) → l.0 ≡ m.0 → l ≡ m
-record_of l m same = let make : ℕ → LinkId = λ n. record { 0 = n } in ap make same
-
-found_first : (t : Bool) (past : List Moment) (link m : LinkId) (o : Option Register) (later : Bool) → (m.0 == link.0) ≡ t
-    → o ≡ (if later then Some (register_of past link) else None)
-    → cond t (Some (register_of past m)) o ≡ (if (t || later) then Some (register_of past link) else None)
-found_first true past link m o later same o_is = ap (λ (l : LinkId). Some (register_of past l)) (record_of m link (eqb-true m.0 link.0 same))
-found_first false past link m o later other o_is = o_is
-
 -- the register of an in-link is found, and none of another link
 pub find-register_of : (past : List Moment) (link : LinkId) (ins : List LinkId)
     → find (λ r. r.link.0 == link.0) (map (register_of past) ins) ≡ (if has_link link.0 ins then Some (register_of past link) else None)
 find-register_of past link [] = refl
 find-register_of past link (m ∷ ms) =
-    found_first (m.0 == link.0) past link m (find (λ r. r.link.0 == link.0) (map (register_of past) ms)) (has_link link.0 ms) refl (find-register_of past link ms)
+    found_first (m.0 == link.0) (register_of past) link m (find (λ r. r.link.0 == link.0) (map (register_of past) ms)) (has_link link.0 ms) refl (find-register_of past link ms)
 
 -- what a search tells of a link
 pub found_is : (past : List Moment) (link : LinkId) (ins : List LinkId) (links : List Register) (o : Option Register)

@@ -1,2 +1,4 @@
 pub mod Register
 pub mod Registers
+pub mod Silence
+pub mod InLinks

@@ -3,9 +3,14 @@
 #![tactic(auto)]
 
 mod change;
+mod in_links;
 mod law;
+mod quiet;
 mod register;
 mod registers;
+mod silence;
 
+pub use in_links::InLinks;
 pub use law::barrier_is_greatest_passed;
 pub use registers::{Barriers, Registers};
+pub use silence::Silence;

@@ -1,7 +1,7 @@
 // The registers of a node and its two barriers.
 ghost use Rattle.std.specs.Prelude.{◌≡◌, ◌==◌, ◌&&◌, ◌∷◌, [], if◌then◌else◌, List, max, map, not, None, unwrap_or, find, option_copied, IfOk};
 ghost use Rattle.pipe_base.specs.declared.packet.Plane.TheVariants.{BestEffort, Commit};
-ghost use Rattle.pipe_base.specs.Moment.{Moment, Received, WentDown, Dropped, is_up, is_kept, has_link};
+ghost use Rattle.pipe_base.specs.Moment.{Moment, Received, WentDown, Dropped, is_up, is_kept, has_link, with_downed};
 ghost use Rattle.pipe_base.specs.Barrier.{register};
 ghost use Rattle.pipe_barrier.specs.Register.{moment_of, register_after, least_from};
 ghost use Rattle.pipe_barrier.specs.Registers.{Stands, AddsMoment, AreBarriersAfter, kept_with};
@@ -86,6 +86,16 @@ impl Registers {
         self.change(link, Change::Dropped);
     }
 
+    /// In-links that were up went down, one after the other.
+    pub(crate) fn down_each(&mut self, marks: &[(LinkId, Ts)])
+        ensures { (ins : List LinkId) (past : List Moment) → Stands ins self.old past
+            → Stands ins self.new (with_downed marks.now past) }
+    {
+        'marks: for (link, _) in marks {
+            self.down(*link);
+        }
+    }
+
     fn change(&mut self, link: LinkId, change: Change)
         ensures { AddsMoment self.old self.new (moment_of link change) }
     {
@@ -142,6 +152,19 @@ impl Registers {
         ensures { option_copied result ≡ find (λ r. r.link.0 == link.0) self.now.links }
     {
         self.links.iter().find(|r| r.link.0 == link.0)
+    }
+
+    pub(crate) fn links(&self) -> &[Register]
+        ensures { result.now ≡ self.now.links }
+    {
+        self.links.as_slice()
+    }
+
+    pub(crate) fn barriers(&self) -> Barriers
+        ensures be { result.be.0 ≡ self.now.be }
+        ensures commit { result.commit.0 ≡ self.now.commit }
+    {
+        self.barriers
     }
 
     /// The best-effort barrier.

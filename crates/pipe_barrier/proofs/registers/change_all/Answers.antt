@@ -2,7 +2,8 @@ use Rattle.std.proofs.Common.{◌≡◌, ◌<◌, length, map, false, arith, ◌
 use Rattle.pipe_base.specs.declared.packet.Plane.TheVariants.{BestEffort, Commit}
 use Rattle.pipe_barrier.specs.declared.register.Register.{Register}
 use Rattle.pipe_barrier.specs.Register.{register_after}
-use Rattle.pipe_barrier.proofs.Standing.{links_turn, links_at_end, least_turn_in_place, walk_follows, stands_after}
+use Rattle.pipe_barrier.proofs.Standing.{least_turn_in_place, walk_follows, stands_after}
+use Rattle.pipe_barrier.proofs.Walk.{links_turn, links_at_end}
 use Rattle.pipe_barrier.proofs.registers.change_all.Goals as goal
 
 -- what is read past the end

@@ -1,0 +1,19 @@
+use Rattle.std.proofs.Common.{◌<◌, length, None, arith}
+use Rattle.pipe_base.specs.Silence.{Ticked}
+use Rattle.pipe_barrier.specs.declared.quiet.Quiet.{Quiet}
+use Rattle.pipe_barrier.specs.Silence.{quiet_after}
+use Rattle.pipe_barrier.proofs.Walk.{links_turn, links_at_end}
+use Rattle.pipe_barrier.proofs.silence.tick_all.Goals as goal
+
+-- what is read past the end
+none : Quiet
+none = record { link = record { 0 = 0 }; start = None }
+
+pub links-preserved : goal.links-preserved
+unfolding none
+links-preserved c =
+    let within : c.links.quiet-index < length c.links.links = omega arith in
+    links_turn (quiet_after (Ticked c.args.now.0)) c.args.links.now c.links.links c.links.quiet-index none c.ticked.result c.links-test.true within c.links.invariant c.ticked.ensures
+
+pub returns : goal.returns
+returns c = links_at_end (quiet_after (Ticked c.args.now.0)) c.args.links.now c.links.links c.links.quiet-index c.links-test.false c.links.invariant
