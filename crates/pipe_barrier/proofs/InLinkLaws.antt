@@ -30,6 +30,7 @@ marks_among-kept patience now moments calls (l ∷ ls) =
     ap (λ (start : Option ℕ). if is_up moments l.0 && is_silent patience now start then mark_of moments l ∷ rest else rest) (start_of-quiet_of calls l)
     ∙ mark_first (goes_down patience moments calls now l) moments l (filter (goes_down patience moments calls now) ls) rest (marks_among-kept patience now moments calls ls)
 
+-- the same, of lists that are kept apart
 pub marks_are : (patience p now : ℕ) (moments : List Moment) (calls : List QuietCall) (ins : List LinkId) (rs registers : List Register) (qs quiets : List Quiet)
     → p ≡ patience → rs ≡ registers → qs ≡ quiets → registers ≡ map (register_of moments) ins → quiets ≡ map (quiet_of calls) ins
     → marks_among p now rs qs ≡ silent_marks patience ins moments calls now
@@ -40,6 +41,7 @@ marks_are patience p now moments calls ins rs registers qs quiets p_is rs_are qs
 
 -- ---- the walk
 
+-- a list that has ended leaves nothing to find
 no_quiets : (patience now : ℕ) (rs : List Register) → marks_among patience now rs [] ≡ []
 no_quiets patience now [] = refl
 no_quiets patience now (r ∷ rs) = refl
