@@ -48,7 +48,8 @@ impl InLinks {
     pub fn barriers(&self) -> Barriers
         ensures be { result.be.0 ≡ self.now.registers.be }
         ensures commit { result.commit.0 ≡ self.now.registers.commit }
-        ensures are { (ins : List LinkId) (patience : ℕ) (moments : List Moment) (calls : List QuietCall)
+        ensures are { (ins : List LinkId) (patience : ℕ) (moments : List Moment)
+            (calls : List QuietCall)
             → Stands ins patience self.now moments calls → AreBarriers ins moments result }
     {
         self.registers.barriers()
@@ -66,7 +67,8 @@ impl InLinks {
     /// The in-links that go down at a tick that reads `now`, each with its frozen value, in rising
     /// number. One walk over the links.
     pub fn silent_marks(&self, alloc: Global, now: Ts) -> Result<DownList, NoMemory>
-        ensures { IfOk result (λ marks. (ins : List LinkId) (patience : ℕ) (moments : List Moment) (calls : List QuietCall)
+        ensures { IfOk result (λ marks. (ins : List LinkId) (patience : ℕ)
+            (moments : List Moment) (calls : List QuietCall)
             → Stands ins patience self.now moments calls
             → marks ≡ silent_marks patience ins moments calls now.0) }
     {
@@ -78,7 +80,8 @@ impl InLinks {
     /// The barriers after these links have gone down, one after the other. The registers are
     /// copied only where some link goes.
     pub fn barriers_without(&self, marks: &DownList) -> Result<Barriers, NoMemory>
-        ensures { IfOk result (λ barriers. (ins : List LinkId) (patience : ℕ) (moments : List Moment) (calls : List QuietCall)
+        ensures { IfOk result (λ barriers. (ins : List LinkId) (patience : ℕ)
+            (moments : List Moment) (calls : List QuietCall)
             → Stands ins patience self.now moments calls
             → AreBarriers ins (with_downed marks.now moments) barriers) }
     {
@@ -94,7 +97,8 @@ impl InLinks {
     pub fn receive(&mut self, link: LinkId, be: Ts, commit: Ts)
         ensures { (ins : List LinkId) (patience : ℕ) (moments : List Moment) (calls : List QuietCall)
             → Stands ins patience self.old moments calls
-            → Stands ins patience self.new (Received link.0 be.0 commit.0 ∷ moments) (Took link.0 ∷ calls) }
+            → Stands ins patience self.new (Received link.0 be.0 commit.0 ∷ moments)
+            (Took link.0 ∷ calls) }
     {
         self.registers.raise(link, be, commit);
         self.silence.took(link);

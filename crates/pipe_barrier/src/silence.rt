@@ -54,7 +54,8 @@ impl Silence {
     /// Whether at this reading the in-link has been silent for the patience, as a tick would find
     /// it. False for a link that is no in-link.
     pub fn silent(&self, link: LinkId, now: Ts) -> bool
-        ensures { (ins : List LinkId) (patience : ℕ) (calls : List QuietCall) → Stands ins patience self.now calls
+        ensures { (ins : List LinkId) (patience : ℕ) (calls : List QuietCall)
+            → Stands ins patience self.now calls
             → result ≡ (has_link link.0 ins && is_silent patience now.0 (quiet_start calls link.0)) }
     {
         match self.find(link) {
