@@ -6,11 +6,11 @@ use Rattle.std.proofs.lemmas.List.{drop_all, take_more}
 use Rattle.pipe_base.specs.declared.name.LinkId.{LinkId}
 use Rattle.pipe_base.specs.declared.name.Ts.{Ts}
 use Rattle.pipe_base.specs.Moment.{Moment, WentDown, is_up, with_downed}
-use Rattle.pipe_base.specs.Silence.{QuietCall, quiet_start, is_silent, goes_down, mark_of, silent_marks}
+use Rattle.pipe_base.specs.Silence.{QuietCall, is_silent, goes_down, mark_of, silent_marks}
 use Rattle.pipe_barrier.specs.declared.quiet.Quiet.{Quiet}
 use Rattle.pipe_barrier.specs.declared.register.Register.{Register}
 use Rattle.pipe_barrier.specs.Register.{register_of}
-use Rattle.pipe_barrier.specs.Silence.{quiet_of, start_of}
+use Rattle.pipe_barrier.specs.Silence.{quiet_of}
 use Rattle.pipe_barrier.specs.InLinks.{marks_among}
 use Rattle.pipe_barrier.proofs.Quieting.{start_of-quiet_of}
 
@@ -30,6 +30,7 @@ marks_among-kept patience now moments calls (l ∷ ls) =
     ap (λ (start : Option ℕ). if is_up moments l.0 && is_silent patience now start then mark_of moments l ∷ rest else rest) (start_of-quiet_of calls l)
     ∙ mark_first (goes_down patience moments calls now l) moments l (filter (goes_down patience moments calls now) ls) rest (marks_among-kept patience now moments calls ls)
 
+-- the same, of lists that are kept apart
 pub marks_are : (patience p now : ℕ) (moments : List Moment) (calls : List QuietCall) (ins : List LinkId) (rs registers : List Register) (qs quiets : List Quiet)
     → p ≡ patience → rs ≡ registers → qs ≡ quiets → registers ≡ map (register_of moments) ins → quiets ≡ map (quiet_of calls) ins
     → marks_among p now rs qs ≡ silent_marks patience ins moments calls now
@@ -40,6 +41,7 @@ marks_are patience p now moments calls ins rs registers qs quiets p_is rs_are qs
 
 -- ---- the walk
 
+-- a list that has ended leaves nothing to find
 no_quiets : (patience now : ℕ) (rs : List Register) → marks_among patience now rs [] ≡ []
 no_quiets patience now [] = refl
 no_quiets patience now (r ∷ rs) = refl

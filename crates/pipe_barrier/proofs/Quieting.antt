@@ -9,6 +9,9 @@ use Rattle.pipe_barrier.specs.declared.quiet.Quiet.{Quiet}
 use Rattle.pipe_barrier.specs.Silence.{quiet_of, quiet_after, start_of, kept_with, Stands}
 use Rattle.pipe_barrier.proofs.Walk.{found_first}
 
+-- ---- one call more
+
+-- a link with a quiet start
 abbrev quiet_with : LinkId → Option ℕ → Quiet
 quiet_with l start = record { link = l; start = option_map (λ (n : ℕ). record { 0 = n }) start }
 
@@ -25,6 +28,7 @@ quiet_after-quiet_of : (call : QuietCall) (calls : List QuietCall) (m : LinkId) 
 quiet_after-quiet_of (Took l) calls m = after_take (l == m.0) m (quiet_start calls m.0)
 quiet_after-quiet_of (Ticked now) calls m = after_tick m (quiet_start calls m.0) now
 
+-- what is kept after one call more is what is kept of the call and those before
 map-quiet_after : (call : QuietCall) (calls : List QuietCall) (ins : List LinkId)
     → map (quiet_after call) (map (quiet_of calls) ins) ≡ map (quiet_of (call ∷ calls)) ins
 map-quiet_after call calls [] = refl
@@ -40,6 +44,7 @@ stands_after ins patience calls call p links now stands now_is = record {
 
 -- ---- a search
 
+-- the quiet start that is kept is that of the calls
 start_of-quiet_with : (l : LinkId) (start : Option ℕ) → start_of (quiet_with l start) ≡ start
 start_of-quiet_with l None = refl
 start_of-quiet_with l (Some n) = refl
@@ -47,12 +52,14 @@ start_of-quiet_with l (Some n) = refl
 pub start_of-quiet_of : (calls : List QuietCall) (l : LinkId) → start_of (quiet_of calls l) ≡ quiet_start calls l.0
 start_of-quiet_of calls l = start_of-quiet_with l (quiet_start calls l.0)
 
+-- an in-link is found, and no other link
 find-quiet_of : (calls : List QuietCall) (link : LinkId) (ins : List LinkId)
     → find (λ q. q.link.0 == link.0) (map (quiet_of calls) ins) ≡ (if has_link link.0 ins then Some (quiet_of calls link) else None)
 find-quiet_of calls link [] = refl
 find-quiet_of calls link (m ∷ ms) =
     found_first (m.0 == link.0) (quiet_of calls) link m (find (λ q. q.link.0 == link.0) (map (quiet_of calls) ms)) (has_link link.0 ms) refl (find-quiet_of calls link ms)
 
+-- whether what was found is silent
 told : (b : Bool) (patience now : ℕ) (o : Option Quiet) (q : Quiet) (start : Option ℕ) → start_of q ≡ start → o ≡ (if b then Some q else None)
     → option_map_or (λ x. is_silent patience now (start_of x)) o false ≡ (b && is_silent patience now start)
 told true patience now o q start start_is is =

@@ -1,7 +1,6 @@
 -- What is kept stands for one moment more, and what a search among the registers finds.
-use Rattle.std.proofs.Common.{◌≡◌, ℕ, ◌+◌, ◌-◌, ◌<◌, ◌≤◌, ◌==◌, ◌&&◌, ◌||◌, if◌then◌else◌, max, min, Bool, true, false, cond, not, Option, None, Some, unwrap_or, option_map, List, [], ◌∷◌, ◌++◌, length, get_or, take, drop, set, map, find, refl, sym, ap, ap₂, ◌∙◌, le_refl, le_of_lt, arith, eqb-true, length-take-le, get_or-drop, take_all, append-nil}
-use Rattle.std.proofs.lemmas.List.{length-map, get_or-append_right, get_or_default, at_drop_more, at_drop_all, drop_all}
-use Rattle.std.proofs.lemmas.List.Edits.{map_over_more}
+use Rattle.std.proofs.Common.{◌≡◌, ℕ, ◌+◌, ◌<◌, ◌≤◌, ◌==◌, ◌&&◌, if◌then◌else◌, max, min, Bool, true, false, cond, not, Option, None, Some, unwrap_or, option_map, List, [], ◌∷◌, ◌++◌, length, get_or, take, drop, map, find, refl, sym, ap, ap₂, ◌∙◌, arith}
+use Rattle.std.proofs.lemmas.List.{at_drop_more, at_drop_all}
 use Rattle.pipe_base.specs.declared.name.LinkId.{LinkId}
 use Rattle.pipe_base.specs.declared.name.Ts.{Ts}
 use Rattle.pipe_base.specs.declared.packet.Plane.{Plane}

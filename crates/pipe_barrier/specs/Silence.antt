@@ -24,6 +24,7 @@ pub record Kept : Type 0 where
   pub patience : ℕ
   pub links : List Quiet
 
+-- the same, from the two fields
 abbrev pub kept_with : Ts → List Quiet → Kept
 kept_with patience links = record { patience = patience.0; links = links }
 

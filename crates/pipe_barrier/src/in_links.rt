@@ -48,7 +48,8 @@ impl InLinks {
     pub fn barriers(&self) -> Barriers
         ensures be { result.be.0 ≡ self.now.registers.be }
         ensures commit { result.commit.0 ≡ self.now.registers.commit }
-        ensures are { (ins : List LinkId) (patience : ℕ) (moments : List Moment) (calls : List QuietCall)
+        ensures are { (ins : List LinkId) (patience : ℕ) (moments : List Moment)
+            (calls : List QuietCall)
             → Stands ins patience self.now moments calls → AreBarriers ins moments result }
     {
         self.registers.barriers()
@@ -66,7 +67,8 @@ impl InLinks {
     /// The in-links that go down at a tick that reads `now`, each with its frozen value, in rising
     /// number. One walk over the links.
     pub fn silent_marks(&self, alloc: Global, now: Ts) -> Result<DownList, NoMemory>
-        ensures { IfOk result (λ marks. (ins : List LinkId) (patience : ℕ) (moments : List Moment) (calls : List QuietCall)
+        ensures { IfOk result (λ marks. (ins : List LinkId) (patience : ℕ)
+            (moments : List Moment) (calls : List QuietCall)
             → Stands ins patience self.now moments calls
             → marks ≡ silent_marks patience ins moments calls now.0) }
     {
@@ -78,7 +80,8 @@ impl InLinks {
     /// The barriers after these links have gone down, one after the other. The registers are
     /// copied only where some link goes.
     pub fn barriers_without(&self, marks: &DownList) -> Result<Barriers, NoMemory>
-        ensures { IfOk result (λ barriers. (ins : List LinkId) (patience : ℕ) (moments : List Moment) (calls : List QuietCall)
+        ensures { IfOk result (λ barriers. (ins : List LinkId) (patience : ℕ)
+            (moments : List Moment) (calls : List QuietCall)
             → Stands ins patience self.now moments calls
             → AreBarriers ins (with_downed marks.now moments) barriers) }
     {
@@ -94,7 +97,8 @@ impl InLinks {
     pub fn receive(&mut self, link: LinkId, be: Ts, commit: Ts)
         ensures { (ins : List LinkId) (patience : ℕ) (moments : List Moment) (calls : List QuietCall)
             → Stands ins patience self.old moments calls
-            → Stands ins patience self.new (Received link.0 be.0 commit.0 ∷ moments) (Took link.0 ∷ calls) }
+            → Stands ins patience self.new (Received link.0 be.0 commit.0 ∷ moments)
+            (Took link.0 ∷ calls) }
     {
         self.registers.raise(link, be, commit);
         self.silence.took(link);
@@ -137,4 +141,56 @@ fn find_marks(
         }
     }
     Ok(marks)
+}
+
+#[cfg(test)]
+mod tests {
+    use super::*;
+    use std::test::Fail;
+
+    const A: LinkId = LinkId(4);
+
+    const B: LinkId = LinkId(7);
+
+    // A link that goes down holds the best-effort barrier no more, and still the commit barrier.
+    #[test]
+    fn a_silent_link_goes_down(rt: HostRuntime) -> Result<(), Fail> {
+        let mut links = InLinks::new(rt.alloc(), [A, B].as_slice(), Ts(10))?;
+        links.receive(A, Ts(5), Ts(3));
+        links.tick(Ts(1), &DownList::new(rt.alloc()));
+        let with = links.barriers_with(B, Ts(20), Ts(30));
+        links.receive(B, Ts(20), Ts(30));
+        let held = Barriers {
+            be: Ts(5),
+            commit: Ts(3),
+        };
+        assert_eq!(rt; (with, links.barriers()), (held, held));
+        let early = links.silent_marks(rt.alloc(), Ts(10))?;
+        assert_eq!(rt; (early.len(), links.barriers_without(&early)?), (0, held));
+        let marks = links.silent_marks(rt.alloc(), Ts(11))?;
+        let freed = Barriers {
+            be: Ts(20),
+            commit: Ts(3),
+        };
+        assert_eq!(rt;
+            (
+                marks.len(),
+                marks.get(0).copied(),
+                links.barriers_without(&marks)?
+            ),
+            (1, Some((A, Ts(3))), freed)
+        );
+        let mut copy = links.try_clone()?;
+        copy.tick(Ts(11), &marks);
+        assert_eq!(rt;
+            (
+                copy.barriers(),
+                copy.is_up(A),
+                copy.is_up(B),
+                links.is_up(A)
+            ),
+            (freed, false, true, true)
+        );
+        Ok(())
+    }
 }

@@ -160,8 +160,7 @@ impl Registers {
         self.links.as_slice()
     }
 
-    /// The two barriers.
-    pub fn barriers(&self) -> Barriers
+    pub(crate) fn barriers(&self) -> Barriers
         ensures be { result.be.0 ≡ self.now.be }
         ensures commit { result.commit.0 ≡ self.now.commit }
     {

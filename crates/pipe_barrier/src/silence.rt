@@ -54,7 +54,8 @@ impl Silence {
     /// Whether at this reading the in-link has been silent for the patience, as a tick would find
     /// it. False for a link that is no in-link.
     pub fn silent(&self, link: LinkId, now: Ts) -> bool
-        ensures { (ins : List LinkId) (patience : ℕ) (calls : List QuietCall) → Stands ins patience self.now calls
+        ensures { (ins : List LinkId) (patience : ℕ) (calls : List QuietCall)
+            → Stands ins patience self.now calls
             → result ≡ (has_link link.0 ins && is_silent patience now.0 (quiet_start calls link.0)) }
     {
         match self.find(link) {
@@ -88,6 +89,7 @@ impl Silence {
     }
 }
 
+/// A packet was received on a link.
 fn took_all(links: &mut [Quiet], link: LinkId)
     ensures { links.new ≡ map (quiet_after (Took link.0)) links.old }
 {
@@ -96,10 +98,59 @@ fn took_all(links: &mut [Quiet], link: LinkId)
     }
 }
 
+/// Each link without a quiet start gets one.
 fn tick_all(links: &mut [Quiet], now: Ts)
     ensures { links.new ≡ map (quiet_after (Ticked now.0)) links.old }
 {
     'links: for quiet in links.iter_mut() {
         *quiet = quiet.ticked(now);
+    }
+}
+
+#[cfg(test)]
+mod tests {
+    use super::*;
+    use std::test::Fail;
+
+    const A: LinkId = LinkId(4);
+
+    const B: LinkId = LinkId(7);
+
+    const OTHER: LinkId = LinkId(5);
+
+    #[derive(Clone, Copy)]
+    enum Call {
+        Took(LinkId),
+        Tick(u64),
+    }
+
+    // Each call with a reading after it, and whether A and B are silent at that reading for a
+    // patience of 10: the quiet start is the first tick since the last take.
+    #[test]
+    fn silent_from_the_first_tick_since_the_last_take(rt: HostRuntime) -> Result<(), Fail> {
+        let mut silence = Silence::new(rt.alloc(), [A, B].as_slice(), Ts(10))?;
+        for (call, now, a, b) in [
+            (Call::Took(A), 1000, false, false),
+            (Call::Tick(5), 14, false, false),
+            (Call::Tick(9), 15, true, true),
+            (Call::Took(A), 1000, false, true),
+            (Call::Tick(16), 25, false, true),
+            (Call::Tick(20), 26, true, true),
+            (Call::Took(OTHER), 26, true, true),
+        ] {
+            match call {
+                Call::Took(link) => silence.took(link),
+                Call::Tick(reading) => silence.tick(Ts(reading)),
+            }
+            assert_eq!(rt;
+                (
+                    silence.silent(A, Ts(now)),
+                    silence.silent(B, Ts(now)),
+                    silence.silent(OTHER, Ts(now))
+                ),
+                (a, b, false)
+            );
+        }
+        Ok(())
     }
 }

@@ -2,7 +2,6 @@ use Rattle.std.proofs.Common.{◌≡◌, length}
 use Rattle.std.specs.Slice.Iter.{iter_rest}
 use Rattle.std.specs.Iterator.Adapters.{zip_first, zip_second}
 use Rattle.std.proofs.lemmas.Slice.Zip.{zip_end}
-use Rattle.pipe_barrier.specs.InLinks.{marks_among}
 use Rattle.pipe_barrier.proofs.InLinkLaws.{walk_at_end}
 use Rattle.pipe_barrier.proofs.in_links.find_marks.Goals as goal
 
