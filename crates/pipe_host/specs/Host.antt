@@ -9,8 +9,13 @@ use Rattle.pipe_base.specs.declared.packet.Plane.TheVariants as plane
 use Rattle.pipe_base.specs.declared.step.Fate.{Fate}
 use Rattle.pipe_base.specs.declared.step.Fate.TheVariants.{Held}
 use Rattle.pipe_base.specs.declared.step.Step.{Step}
-use Rattle.pipe_base.specs.Graph.{Graph, is_host}
+use Rattle.pipe_base.specs.declared.step.Outcome.TheVariants.{Ok}
+use Rattle.pipe_base.specs.Graph.{Graph, ins_of, is_host}
 use Rattle.pipe_base.specs.Messages.{Messages, from_barrier, has_key}
+use Rattle.pipe_base.specs.Moment.{Received}
+use Rattle.pipe_base.specs.Step.{quiet_step}
+use Rattle.pipe_barrier.specs.declared.registers.Barriers.{Barriers}
+use Rattle.pipe_barrier.specs.Registers.{AreBarriers}
 use Rattle.pipe_links.specs.Links as links
 use Rattle.pipe_model.specs.declared.event.Event.TheVariants.{Take, Tick}
 use Rattle.pipe_model.specs.declared.record.Record.{Record}
@@ -18,9 +23,9 @@ use Rattle.pipe_model.specs.declared.record.Took.TheVariants.{Nothing, Link}
 use Rattle.pipe_model.specs.Clock.{next}
 use Rattle.pipe_model.specs.Fate.{held}
 use Rattle.pipe_model.specs.Got.{gets_of, key_of, message_of}
-use Rattle.pipe_model.specs.Moments.{barrier_at}
+use Rattle.pipe_model.specs.Moments.{barrier_at, moments_of}
 use Rattle.pipe_model.specs.Run.{IsNodeStep}
-use Rattle.pipe_reorder.specs.Buffer.{Buffer}
+use Rattle.pipe_reorder.specs.Buffer.{Buffer, passed_by}
 use Rattle.pipe_host.specs.declared.host.Host.{Host}
 
 -- the buffer of best-effort messages: those from the barrier on, of all that ever had the fate held
@@ -57,6 +62,13 @@ message_in graph node link p = message_of BestEffort (gets_of graph node (Some (
 abbrev pub IsFresh : Option Fate → Packet → Messages → Type 0
 IsFresh (Some Held) p messages = has_key (key_of p) messages ≡ false
 IsFresh _ p messages = Unit {0}
+
+-- the step of a received packet with this fate, where its message is held already: what the barrier passes is logged
+pub record IsReceipt (k : Host) (link : LinkId) (p : Packet) (fate : Option Fate) (step : Step) : Type 0 where
+  pub barriers : Barriers
+  pub barriers_are : (graph : Graph) (node : ℕ) (own : List Record) → links.Stands graph node own k.links
+      → AreBarriers (ins_of graph node) (Received link.0 p.be.0 p.commit.0 ∷ moments_of own) barriers
+  pub step_is : step ≡ record (quiet_step Ok) { fate = fate; logged = passed_by barriers.be.0 k.held }
 
 -- The step is what the rules say of the record, and afterwards the host stands for its records with that one.
 pub record Does (graph : Graph) (node : ℕ) (own : List Record) (r : Record) (new : Host) : Type 0 where

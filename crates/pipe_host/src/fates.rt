@@ -1,5 +1,6 @@
 // What becomes of the message that a packet brings, and how it is held and let go.
 ghost use Rattle.std.specs.Prelude.{◌≡◌, ℕ, Some, OnErr, OnOk};
+ghost use Rattle.pipe_base.specs.declared.message.Service.TheVariants.{BestEffort};
 ghost use Rattle.pipe_base.specs.Messages.{Messages};
 ghost use Rattle.pipe_model.specs.Fate.{fate_for, with_held};
 ghost use Rattle.pipe_model.specs.Got.{carries, key_of};

@@ -15,7 +15,7 @@ ghost use Rattle.pipe_model.specs.Fate as fates;
 ghost use Rattle.pipe_model.specs.Moments.{barrier_at, moments_of};
 ghost use Rattle.pipe_model.specs.Run.{IsNodeStep};
 ghost use Rattle.pipe_base.specs.declared.packet.Plane.TheVariants as plane;
-ghost use Rattle.pipe_host.specs.Host.{Does, Stands, StandsWith, Works, buffer_at, message_in, taken, ticked};
+ghost use Rattle.pipe_host.specs.Host.{Does, IsFresh, IsReceipt, Stands, StandsWith, Works, buffer_at, message_in, taken, ticked};
 
 use crate::fates::{hold, is_message, key_of, let_go};
 use crate::times::{deliver, follow};
@@ -47,7 +47,8 @@ pub struct Host {
 impl Host {
     /// A host to which nothing has happened.
     pub fn new(alloc: Global, topology: &Topology, host: HostId) -> Result<Host, NoMemory>
-        requires { host.0 < topology.now.hosts }
+        requires node { host.0 < topology.now.nodes }
+        requires host { is_host topology.now host.0 ≡ true }
         ensures { IfOk result (Stands topology.now host.0 []) }
     {
         Ok(Host {
@@ -104,15 +105,17 @@ impl Host {
     {
         let mut step = Step::new(self.alloc);
         let mut clock = self.clock;
-        match clock.stamp(now) {
-            Err(ClockEnd { next }) => step.outcome = Outcome::ClockEnd { next },
-            Ok(stamp) => {
-                let src = HostId(self.links.node().0);
-                let routes = self.links.routes();
-                step.stamped = Some(stamp);
-                BeSend::send(dests, src, stamp, clock.next(), routes, &mut step)?;
+        let stamp = match clock.stamp(now) {
+            Ok(stamp) => stamp,
+            Err(ClockEnd { next }) => {
+                step.outcome = Outcome::ClockEnd { next };
+                return Ok(step);
             }
-        }
+        };
+        step.stamped = Some(stamp);
+        let src = HostId(self.links.node().0);
+        let routes = self.links.routes();
+        BeSend::send(dests, src, stamp, clock.next(), routes, &mut step)?;
         Ok(step)
     }
 
@@ -128,7 +131,7 @@ impl Host {
         self.held.copy_passed(barriers.be, &mut step.logged)?;
         let mut clock = self.clock;
         clock.tick(now);
-        deliver(&mut clock, &step.logged);
+        deliver(&mut clock, &step.logged, barriers.be);
         let next = clock.next();
         self.links.put_beacons(self.alloc, next, next, &mut step)?;
         Ok(step)
@@ -159,8 +162,9 @@ impl Host {
 
     /// What becomes of the message that the packet brings to the host, if it brings one.
     fn fate(&self, packet: &Packet) -> Option<Fate>
-        ensures { (graph : Graph) (node : ℕ) (own : List ARecord) (link : LinkId) → Stands graph node own self.now
+        ensures value { (graph : Graph) (node : ℕ) (own : List ARecord) (link : LinkId) → Stands graph node own self.now
             → result ≡ fate_for self.now.held.barrier self.now.held.messages (message_in graph node link packet.now) }
+        ensures fresh { IsFresh result packet.now self.now.held.messages }
     {
         if packet.dst.0 == self.links.node().0 && is_message(packet.kind) {
             Some(self.held.fate(key_of(packet)))
@@ -171,6 +175,7 @@ impl Host {
 
     /// The step of a packet that was received, where its message is held already.
     fn receive(&self, link: LinkId, packet: &Packet, fate: Option<Fate>) -> Result<Step, NoMemory>
+        ensures { IfOk result (IsReceipt self.now link packet.now fate) }
     {
         let barriers = self.links.barriers_with(link, packet);
         let mut step = Step::new(self.alloc);
@@ -186,8 +191,9 @@ impl Host {
             → Stands graph node («record».now ∷ own) self.new }
     {
         self.links.follow(record);
-        follow(&mut self.clock, record);
-        self.held.drop_passed(self.links.barriers().be);
+        let barrier = self.links.barriers().be;
+        follow(&mut self.clock, record, barrier);
+        self.held.drop_passed(barrier);
     }
 
     /// Gives back what was held for a step that was worked out and is refused. Takes no memory.
@@ -198,5 +204,90 @@ impl Host {
         if let Took::Link { packet, .. } = &record.took {
             let_go(&mut self.held, record.step.fate, packet);
         }
+    }
+
+    /// Sends a best-effort scattering. The step is empty first, and after want of memory, which changes nothing.
+    pub fn send(
+        &mut self,
+        service: Service,
+        now: Ts,
+        dests: DestList,
+        step: &mut Step,
+    ) -> Result<(), NoMemory>
+        requires built { service ≡ Service.BestEffort }
+        requires few { length dests < 2 ^ 32 }
+        ensures ok { OnOk result ((graph : Graph) (host : HostId) (own : List ARecord) → Stands graph host.0 own self.old
+            → Does graph host.0 own (record { event = Send host service now dests; took = Took.Nothing; step = step.new }) self.new) }
+        ensures err { OnErr result ((self.new ≡ self.old) × (step.new ≡ quiet_step Outcome.Ok)) }
+    {
+        *step = Step::new(self.alloc);
+        let worked = self.work_send(now, &dests)?;
+        let record = Record {
+            event: Event::Send {
+                host: HostId(self.links.node().0),
+                service,
+                now,
+                dests,
+            },
+            took: Took::Nothing,
+            step: worked,
+        };
+        self.follow(&record);
+        *step = record.step;
+        Ok(())
+    }
+
+    /// Takes a packet from a link into the host. The step is empty first, and after want of memory, which changes nothing.
+    pub fn take(&mut self, link: LinkId, packet: Packet, step: &mut Step) -> Result<(), NoMemory>
+        ensures ok { OnOk result ((graph : Graph) (node : ℕ) (own : List ARecord) (place : ℕ) (keep : Bool) → Stands graph node own self.old
+            → has_link link.0 (ins_of graph node) ≡ true → Does graph node own (taken link packet place keep step.new) self.new) }
+        ensures err { OnErr result ((self.new ≡ self.old) × (step.new ≡ quiet_step Outcome.Ok)) }
+    {
+        *step = Step::new(self.alloc);
+        let worked = self.work_take(link, &packet)?;
+        let record = Record {
+            event: Event::Take {
+                link,
+                place: 0,
+                keep: false,
+            },
+            took: Took::Link { link, packet },
+            step: worked,
+        };
+        self.follow(&record);
+        *step = record.step;
+        Ok(())
+    }
+
+    /// The host's clock reads `now`. The step is empty first, and after want of memory, which changes nothing.
+    pub fn tick(&mut self, now: Ts, step: &mut Step) -> Result<(), NoMemory>
+        ensures ok { OnOk result ((graph : Graph) (node : NodeId) (own : List ARecord) → Stands graph node.0 own self.old
+            → Does graph node.0 own (ticked node now step.new) self.new) }
+        ensures err { OnErr result ((self.new ≡ self.old) × (step.new ≡ quiet_step Outcome.Ok)) }
+    {
+        *step = Step::new(self.alloc);
+        let worked = self.work_tick(now)?;
+        let record = Record {
+            event: Event::Tick {
+                node: self.links.node(),
+                now,
+            },
+            took: Took::Nothing,
+            step: worked,
+        };
+        self.follow(&record);
+        *step = record.step;
+        Ok(())
+    }
+
+    pub fn try_clone(&self) -> Result<Host, NoMemory>
+        ensures { IfOk result (λ copy. copy ≡ self.now) }
+    {
+        Ok(Host {
+            alloc: self.alloc,
+            links: self.links.try_clone()?,
+            clock: self.clock,
+            held: self.held.try_clone()?,
+        })
     }
 }

@@ -1,31 +1,47 @@
 // How a host's clock follows what the host did.
-ghost use Rattle.std.specs.Prelude.{◌≡◌, ◌+◌, ◌<◌, ◌^◌, max, All};
-ghost use Rattle.pipe_base.specs.Clock.{after_logged, next_after};
+ghost use Rattle.std.specs.Prelude.{◌≡◌, ◌≤◌, max, IfSome};
+ghost use Rattle.pipe_base.specs.Clock.{after_logged, after_stamp, next_after};
+ghost use Rattle.pipe_base.specs.Limits.{last_stamp};
+ghost use Rattle.pipe_base.specs.Messages.{AreBelow};
 ghost use Rattle.pipe_model.specs.Clock.{tick_reading};
 
-use pipe_base::LoggedList;
+use pipe_base::{LoggedList, Ts};
 use pipe_clock::HostClock;
 use pipe_model::{Event, Record};
 
-/// The clock is above all that was logged.
-pub fn deliver(clock: &mut HostClock, logged: &LoggedList)
-    ensures { All (λ e. e.1.key.ts.0 + 1 < 2 ^ 64) logged.now → clock.new.next.0 ≡ max clock.old.next.0 (after_logged logged.now) }
+/// The clock is above all that was logged, which is below a barrier.
+pub fn deliver(clock: &mut HostClock, logged: &LoggedList, barrier: Ts)
+    ensures { AreBelow barrier.0 logged.now → clock.new.next.0 ≡ max clock.old.next.0 (after_logged logged.now) }
 {
     'entries: for (_, entry) in logged.as_slice() {
         clock.delivered(entry.key.ts);
     }
 }
 
-/// The clock follows a record of its host.
-pub fn follow(clock: &mut HostClock, record: &Record)
-    ensures { All (λ e. e.1.key.ts.0 + 1 < 2 ^ 64) «record».now.step.logged → IsShort «record».now.step.stamped
+/// The clock follows a record of its host, which logged below a barrier.
+pub fn follow(clock: &mut HostClock, record: &Record, barrier: Ts)
+    ensures { AreBelow barrier.0 «record».now.step.logged → IfSome «record».now.step.stamped (λ ts. ts.0 ≤ last_stamp)
         → clock.new.next.0 ≡ next_after clock.old.next.0 (tick_reading «record».now.event) «record».now.step.stamped «record».now.step.logged }
 {
-    if let Event::Tick { now, .. } = &record.event {
+    read(clock, &record.event);
+    stamp(clock, record.step.stamped);
+    deliver(clock, &record.step.logged, barrier);
+}
+
+/// The clock is at least the reading of a tick.
+fn read(clock: &mut HostClock, event: &Event)
+    ensures { clock.new.next.0 ≡ max clock.old.next.0 (tick_reading event.now) }
+{
+    if let Event::Tick { now, .. } = event {
         clock.tick(*now);
     }
-    if let Some(stamp) = record.step.stamped {
+}
+
+/// The clock is above what was stamped.
+fn stamp(clock: &mut HostClock, stamped: Option<Ts>)
+    ensures { IfSome stamped (λ ts. ts.0 ≤ last_stamp) → clock.new.next.0 ≡ max clock.old.next.0 (after_stamp stamped) }
+{
+    if let Some(stamp) = stamped {
         clock.delivered(stamp);
     }
-    deliver(clock, &record.step.logged);
 }

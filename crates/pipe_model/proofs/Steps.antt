@@ -1,17 +1,72 @@
 -- What a record of a node's own does to its in-links.
-use Rattle.std.proofs.Common.{◌≡◌, ℕ, ◌==◌, ◌&&◌, if◌then◌else◌, Bool, true, false, List, [], ◌∷◌, ◌++◌, Option, None, Some, refl, sym, ap, ◌∙◌}
+use Rattle.std.proofs.Common.{◌≡◌, ℕ, ◌==◌, ◌&&◌, if◌then◌else◌, nat_le, nat_lt, Bool, true, false, List, [], ◌∷◌, ◌++◌, Option, None, Some, filter, refl, ap, ◌∙◌, arith, eq-eqb}
+use Rattle.std.proofs.lemmas.Bool.Decides.{nat_tests}
 use Rattle.pipe_base.specs.declared.name.LinkId.{LinkId}
 use Rattle.pipe_base.specs.declared.name.Ts.{Ts}
 use Rattle.pipe_base.specs.declared.packet.Packet.{Packet}
-use Rattle.pipe_base.specs.Graph.{Graph}
-use Rattle.pipe_base.specs.Moment.{Moment, with_received, with_downed}
+use Rattle.pipe_base.specs.declared.message.Service.{Service}
+use Rattle.pipe_base.specs.declared.message.Service.TheVariants.{BestEffort}
+use Rattle.pipe_base.specs.Graph.{Graph, is_half, is_host}
+use Rattle.pipe_base.specs.Moment.{Moment, is_up, with_received, with_downed}
+use Rattle.pipe_base.specs.ShortestRoute.{not_dropped}
+use Rattle.pipe_base.proofs.MessageLaws.{filter_all}
 use Rattle.pipe_model.specs.declared.event.Event.{Event}
 use Rattle.pipe_model.specs.declared.event.Event.TheVariants.{Take}
 use Rattle.pipe_model.specs.declared.record.Record.{Record}
 use Rattle.pipe_model.specs.declared.record.Took.{Took}
+use Rattle.pipe_model.specs.declared.record.Took.TheVariants.{Link}
+use Rattle.pipe_model.specs.Fate.{fate, held}
+use Rattle.pipe_model.specs.Got.{gets_of, got, message_of}
+use Rattle.pipe_model.specs.Logged.{logged}
 use Rattle.pipe_model.specs.Marks.{downed_at}
 use Rattle.pipe_model.specs.Moments.{known_drops, moments_of, received, received_of, tick_of}
 use Rattle.pipe_model.specs.Run.{IsNodeStep}
+
+-- a packet that is taken from a link that is up is received, one from another link is not
+pub taken_received : (past : List Moment) (link : LinkId) (p : Packet) (place : ℕ) (keep : Bool) → is_up past link.0 ≡ true
+    → received_of past (Take link place keep) (Link link p) ≡ Some (link.0, p)
+taken_received past link p place keep up = let same : (link.0 == link.0) ≡ true = eq-eqb link.0 link.0 refl in rw (same, up) refl
+
+pub taken_ignored : (past : List Moment) (link : LinkId) (p : Packet) (place : ℕ) (keep : Bool) → is_up past link.0 ≡ false
+    → received_of past (Take link place keep) (Link link p) ≡ None
+taken_ignored past link p place keep down = let same : (link.0 == link.0) ≡ true = eq-eqb link.0 link.0 refl in rw (same, down) refl
+
+-- what is received is the packet that was taken
+chosen_packet : (b : Bool) (link : ℕ) (p : Packet) (q : ℕ × Packet) → (if b then Some (link, p) else None) ≡ Some q → p ≡ q.1
+chosen_packet true link p q is = cc
+chosen_packet false link p q is = cc
+
+pub received_packet : (past : List Moment) (event : Event) (l : LinkId) (p : Packet) (q : ℕ × Packet) → received_of past event (Link l p) ≡ Some q → p ≡ q.1
+received_packet past (Take link place keep) l p q is = chosen_packet ((l.0 == link.0) && is_up past link.0) link.0 p q is
+received_packet past _ l p q is = cc
+
+-- where no link is dropped each keeps its beacon
+pub no_drop : (ls : List LinkId) → filter (λ (l : LinkId). not_dropped [] l.0) ls ≡ ls
+no_drop ls = filter_all (λ (l : LinkId). not_dropped [] l.0) ls (λ k d lt. refl)
+
+-- a half gets no messages, so it holds and logs none
+half_is_no_host : (hosts node : ℕ) → nat_le hosts node ≡ true → nat_lt node hosts ≡ false
+half_is_no_host hosts node is = grind (arith, nat_tests, is)
+
+pub no_host : (graph : Graph) (node : ℕ) → is_half graph node ≡ true → is_host graph node ≡ false
+no_host graph node half = half_is_no_host graph.hosts node half
+
+gets_nothing : (graph : Graph) (node : ℕ) (o : Option (ℕ × Packet)) → is_host graph node ≡ false → gets_of graph node o ≡ None
+gets_nothing graph node None other = refl
+gets_nothing graph node (Some q) other = rw other refl
+
+got_nothing : (service : Service) (graph : Graph) (node : ℕ) (own : List Record) (r : Record) → is_host graph node ≡ false → got service graph node own r ≡ None
+got_nothing service graph node own r other = ap (message_of service) (gets_nothing graph node (received own r) other)
+
+pub holds_nothing : (service : Service) (graph : Graph) (node : ℕ) (own : List Record) → is_host graph node ≡ false → held service graph node own ≡ []
+holds_nothing service graph node [] other = refl
+holds_nothing service graph node (r ∷ own) other = let got : got service graph node own r ≡ None = got_nothing service graph node own r other in rw got (holds_nothing service graph node own other)
+
+pub no_fate : (graph : Graph) (node : ℕ) (own : List Record) (r : Record) → is_host graph node ≡ false → None ≡ fate graph node own r
+no_fate graph node own r other = let got : got BestEffort graph node own r ≡ None = got_nothing BestEffort graph node own r other in rw got refl
+
+pub no_log : (graph : Graph) (node : ℕ) (own : List Record) (r : Record) → is_host graph node ≡ false → [] ≡ logged graph node own r
+no_log graph node own r other = let none : held BestEffort graph node (r ∷ own) ≡ [] = holds_nothing BestEffort graph node (r ∷ own) other in rw none refl
 
 no_tick_by : (past : List Moment) (event : Event) (took : Took) (q : ℕ × Packet) → received_of past event took ≡ Some q → tick_of event ≡ None
 no_tick_by past (Take link place keep) took q is = refl

@@ -1,16 +1,25 @@
 -- What a half of a switch keeps, and what it stands for.
-use Rattle.std.specs.Prelude.{◌≡◌, ℕ, Bool, true, List, ◌∷◌}
+use Rattle.std.specs.Prelude.{◌≡◌, ℕ, not, if◌then◌else◌, Bool, true, List, [], ◌∷◌}
 use Rattle.pipe_base.specs.declared.name.LinkId.{LinkId}
 use Rattle.pipe_base.specs.declared.name.NodeId.{NodeId}
 use Rattle.pipe_base.specs.declared.name.Ts.{Ts}
 use Rattle.pipe_base.specs.declared.packet.Packet.{Packet}
 use Rattle.pipe_base.specs.declared.step.Step.{Step}
-use Rattle.pipe_base.specs.Graph.{Graph, is_half}
+use Rattle.pipe_base.specs.declared.step.Outcome.TheVariants.{Ok}
+use Rattle.pipe_base.specs.Graph.{Graph, ins_of, is_half}
+use Rattle.pipe_base.specs.Moment.{Received}
+use Rattle.pipe_base.specs.Packets.{forwarded}
+use Rattle.pipe_base.specs.ShortestRoute.{route}
+use Rattle.pipe_base.specs.Step.{quiet_step}
+use Rattle.pipe_base.specs.Ways.{with_ways}
+use Rattle.pipe_barrier.specs.declared.registers.Barriers.{Barriers}
+use Rattle.pipe_barrier.specs.Registers.{AreBarriers}
 use Rattle.pipe_links.specs.Links as links
 use Rattle.pipe_model.specs.declared.event.Event.TheVariants.{Take, Tick}
 use Rattle.pipe_model.specs.declared.record.Record.{Record}
 use Rattle.pipe_model.specs.declared.record.Took.TheVariants.{Nothing, Link}
-use Rattle.pipe_model.specs.Acting.{ComesIn}
+use Rattle.pipe_model.specs.Got.{is_beacon}
+use Rattle.pipe_model.specs.Moments.{moments_of}
 use Rattle.pipe_model.specs.Run.{IsNodeStep}
 use Rattle.pipe_switch.specs.declared.half.Half.{Half}
 
@@ -26,6 +35,18 @@ taken link p place keep step = record { event = Take link place keep; took = Lin
 -- a node's clock read this
 abbrev pub ticked : NodeId → Ts → Step → Record
 ticked node now step = record { event = Tick node now; took = Nothing; step = step }
+
+-- the packets that a half owes for a packet that it received: a beacon goes no further
+abbrev pub passed_on : Barriers → Packet → List Packet
+passed_on b p = if not (is_beacon p.kind) then forwarded (record { be = b.be.0; commit = b.commit.0 }) p ∷ [] else []
+
+-- the step of a received packet: it goes on with the barriers that it leads to
+pub record IsPassing (k : Half) (link : LinkId) (p : Packet) (step : Step) : Type 0 where
+  pub barriers : Barriers
+  pub barriers_are : (graph : Graph) (node : ℕ) (own : List Record) → links.Stands graph node own k.links
+      → AreBarriers (ins_of graph node) (Received link.0 p.be.0 p.commit.0 ∷ moments_of own) barriers
+  pub step_is : (graph : Graph) (node : ℕ) (own : List Record) → links.Stands graph node own k.links
+      → step ≡ with_ways (route graph [] node) (passed_on barriers p) (quiet_step Ok)
 
 -- The step is what the rules say of the record, and afterwards the half stands for its records with that one.
 pub record Does (graph : Graph) (node : ℕ) (own : List Record) (r : Record) (new : Half) : Type 0 where

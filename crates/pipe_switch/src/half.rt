@@ -10,7 +10,7 @@ ghost use Rattle.pipe_model.specs.Acting.{ComesIn};
 ghost use Rattle.pipe_model.specs.Got.{is_beacon};
 ghost use Rattle.pipe_model.specs.Moments.{moments_of};
 ghost use Rattle.pipe_model.specs.Run.{IsNodeStep};
-ghost use Rattle.pipe_switch.specs.Half.{Does, Stands, taken, ticked};
+ghost use Rattle.pipe_switch.specs.Half.{Does, IsPassing, Stands, taken, ticked};
 
 use pipe_barrier::{Barriers, Registers};
 use pipe_base::{LinkId, NoMemory, NodeId, Outcome, Packet, PacketKind, Step, Ts};
@@ -54,13 +54,21 @@ impl Half {
         ensures { IfOk result (λ step. (graph : Graph) (node : ℕ) (own : List ARecord) (place : ℕ) (keep : Bool) → Stands graph node own self.now
             → has_link link.0 (ins_of graph node) ≡ true → IsNodeStep graph node own (taken link packet.now place keep step)) }
     {
-        let mut step = Step::new(self.alloc);
         if !self.links.is_up(link) {
+            let mut step = Step::new(self.alloc);
             step.outcome = Outcome::Ignored;
             return Ok(step);
         }
+        self.pass_on(link, packet)
+    }
+
+    /// The step of a packet that was received.
+    fn pass_on(&self, link: LinkId, packet: &Packet) -> Result<Step, NoMemory>
+        ensures { IfOk result (IsPassing self.now link packet.now) }
+    {
+        let barriers = self.links.barriers_with(link, packet);
+        let mut step = Step::new(self.alloc);
         if !is_beacon(packet.kind) {
-            let barriers = self.links.barriers_with(link, packet);
             let packet = forwarded(packet, barriers)?;
             self.links.put_on_way(packet, &mut step)?;
         }

@@ -1,0 +1,24 @@
+use Rattle.std.proofs.Common.{false}
+use Rattle.pipe_host.proofs.host.Host.take.Goals as goal
+
+-- the place and what is kept make no difference to what the host keeps
+pub returns-clause-ok : goal.returns-clause-ok
+returns-clause-ok c = λ graph node own place keep stands comes.
+    let works = c.in_ok-worked.ensures.ok graph node own 0 false stands comes in
+    let after = c.follow.ensures graph node own works.stands comes works.rules in
+    let links = after.links_are in
+    record {
+      rules = (c.in_ok-worked.ensures.ok graph node own place keep stands comes).rules;
+      stands = record {
+        host = after.host;
+        links_are = record {
+          node_is = links.node_is;
+          outs_are = links.outs_are;
+          routes_are = links.routes_are;
+          ins_are = links.ins_are;
+          no_drops = links.no_drops;
+        };
+        next_is = after.next_is;
+        held_is = after.held_is;
+      };
+    }

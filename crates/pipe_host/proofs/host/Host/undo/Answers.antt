@@ -1,0 +1,22 @@
+use Rattle.std.proofs.Common.{ℕ, List, ap, sym, ◌∙◌}
+use Rattle.pipe_base.specs.declared.message.Service.TheVariants.{BestEffort}
+use Rattle.pipe_base.specs.declared.packet.Plane.TheVariants as plane
+use Rattle.pipe_base.specs.Messages.{Messages, from_barrier}
+use Rattle.pipe_model.specs.Fate.{held}
+use Rattle.pipe_model.specs.Moments.{barrier_at}
+use Rattle.pipe_reorder.specs.Buffer.{Buffer}
+use Rattle.pipe_host.proofs.HostSteps.{returns_held}
+use Rattle.pipe_host.proofs.host.Host.undo.Goals as goal
+
+pub returns-in-Link : goal.returns-in-Link
+returns-in-Link c = λ graph node own stands step.
+    let b : ℕ = barrier_at plane.BestEffort graph node own in
+    let ms : Messages = from_barrier b (held BestEffort graph node own) in
+    let back = returns_held graph node own c.args.«record».now c.in-Link.link c.in-Link.packet step.fate_is c.in-Link.is in
+    let given = c.let_go.ensures ms back.fresh (ap (λ (h : Buffer). h.messages) stands.held_is ∙ back.held_is) in
+    record {
+      host = stands.host;
+      links_are = stands.links_are;
+      next_is = stands.next_is;
+      held_is = given ∙ ap {B = Buffer} (λ (h : Buffer). record h { messages = ms }) stands.held_is;
+    }

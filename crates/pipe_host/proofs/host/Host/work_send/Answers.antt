@@ -1,0 +1,48 @@
+use Rattle.std.proofs.Common.{◌≡◌, ℕ, ◌+◌, List, [], Some, ap, map, ◌∙◌, arith}
+use Rattle.pipe_base.specs.declared.name.HostId.{HostId}
+use Rattle.pipe_base.specs.declared.name.NodeId.{NodeId}
+use Rattle.pipe_base.specs.declared.name.Ts.{Ts}
+use Rattle.pipe_base.specs.declared.step.Outcome.TheVariants.{Ok, ClockEnd}
+use Rattle.pipe_base.specs.declared.step.Step.{Step}
+use Rattle.pipe_base.specs.Clock.{stamp_at}
+use Rattle.pipe_base.specs.Packets.{Fields, message_to}
+use Rattle.pipe_base.specs.ShortestRoute.{picked, route}
+use Rattle.pipe_base.specs.Step.{quiet_step}
+use Rattle.pipe_base.specs.Ways.{with_ways}
+use Rattle.pipe_links.proofs.Ways.{ways_are}
+use Rattle.pipe_route.specs.Routing.{Routing}
+use Rattle.pipe_host.proofs.HostSteps.{refuses, sends}
+use Rattle.pipe_host.proofs.host.Host.work_send.Goals as goal
+
+pub returns-in-Err : goal.returns-in-Err
+returns-in-Err c = λ graph host service own stands.
+    let end = c.in-Err.field-0.next in
+    let refusal = c.in-Err.ensures.err in
+    let end_is : end.0 ≡ c.args.self.now.clock.next.0 = ap {B = ℕ} (λ (t : Ts). t.0) refusal.next_is in
+    record {
+      rules = refuses graph host service own c.args.now c.args.dests.now end (record c.new-step.result { outcome = ClockEnd end })
+          (end_is ∙ stands.next_is) (omega (arith, refusal.past, end_is)) (ap {B = Step} (λ (s : Step). record s { outcome = ClockEnd end }) c.new-step.ensures);
+      stands = stands;
+    }
+
+pub returns : goal.returns
+returns c = λ graph host service own stands.
+    let stamp = c.in-Ok.stamp in
+    let commit = c.next.result in
+    let f : Fields = record { be = stamp.0; commit = commit.0 } in
+    let dests = c.args.dests.now in
+    let base : Step = record (quiet_step Ok) { stamped = Some stamp } in
+    let src : HostId = record { 0 = c.node.result.0 } in
+    let src_is : src ≡ host = ap {B = HostId} (λ (n : NodeId). record { 0 = n.0 }) c.node.ensures ∙ ap {B = HostId} (λ (n : ℕ). record { 0 = n }) stands.links_are.node_is in
+    let stamping = c.in-Ok.ensures.ok in
+    let commit_is : commit.0 ≡ stamp.0 + 1 = ap {B = ℕ} (λ (t : Ts). t.0) c.next.ensures ∙ stamping.next_is in
+    record {
+      rules = sends graph host service own c.args.now stamp commit dests c.send.new.step stands.host stands.links_are.no_drops
+          (stamping.stamp_is ∙ ap (stamp_at c.args.now.0) stands.next_is) stamping.within commit_is
+          (c.in_ok-send.ensures.ok
+          ∙ ap (λ (s : Step). with_ways (picked c.routes-routes.result.now.links) (map (message_to src stamp f) dests) (record s { stamped = Some stamp })) c.new-step.ensures
+          ∙ ap (λ (routes : Routing). with_ways (picked routes.links) (map (message_to src stamp f) dests) base) c.routes-routes.ensures
+          ∙ ways_are graph host.0 c.args.self.now.links.routes (map (message_to src stamp f) dests) base stands.links_are.routes_are
+          ∙ ap (λ (h : HostId). with_ways (route graph [] host.0) (map (message_to h stamp f) dests) base) src_is);
+      stands = stands;
+    }

@@ -1,0 +1,145 @@
+-- That the steps of a half are what it owes.
+use Rattle.std.proofs.Common.{◌≡◌, ℕ, ◌&&◌, not, if◌then◌else◌, Bool, true, false, List, [], ◌∷◌, ◌++◌, map, filter, Option, None, Some, refl, sym, subst, ap, ◌∙◌, append-nil, zero-add}
+use Rattle.pipe_base.specs.declared.name.LinkId.{LinkId}
+use Rattle.pipe_base.specs.declared.name.NodeId.{NodeId}
+use Rattle.pipe_base.specs.declared.name.Ts.{Ts}
+use Rattle.pipe_base.specs.declared.packet.Packet.{Packet}
+use Rattle.pipe_base.specs.declared.packet.Plane.TheVariants as plane
+use Rattle.pipe_base.specs.declared.step.Outcome.{Outcome}
+use Rattle.pipe_base.specs.declared.step.Outcome.TheVariants.{Ok, Ignored}
+use Rattle.pipe_base.specs.declared.step.Step.{Step}
+use Rattle.pipe_base.specs.Barrier.{barrier}
+use Rattle.pipe_base.specs.Graph.{Graph, ins_of, is_half, is_host, outs_of}
+use Rattle.pipe_base.specs.Moment.{Moment, Received, is_up, with_received, with_downed}
+use Rattle.pipe_base.specs.Packets.{Fields, beacon, forwarded}
+use Rattle.pipe_base.specs.ShortestRoute.{not_dropped, route}
+use Rattle.pipe_base.specs.Silence.{silent_marks}
+use Rattle.pipe_base.specs.Step.{quiet_step}
+use Rattle.pipe_base.specs.Ways.{lost, routed, with_beacons, with_ways}
+use Rattle.pipe_barrier.specs.declared.registers.Barriers.{Barriers}
+use Rattle.pipe_barrier.specs.Registers.{AreBarriers}
+use Rattle.pipe_model.specs.declared.event.Event.TheVariants.{Take, Tick}
+use Rattle.pipe_model.specs.declared.record.Record.{Record}
+use Rattle.pipe_model.specs.declared.record.Took.TheVariants.{Nothing, Link}
+use Rattle.pipe_model.specs.Duties.{fields, owed_by_take}
+use Rattle.pipe_model.specs.Moments.{barrier_at, known_drops, moments_of, quiet_calls, received}
+use Rattle.pipe_model.specs.Run.{IsNodeStep}
+use Rattle.pipe_model.proofs.Steps.{holds_nothing, no_drop, no_fate, no_host, no_log, taken_ignored, taken_received}
+use Rattle.pipe_switch.specs.Half.{passed_on, taken, ticked}
+
+-- whether the link is up, from what the walk over the in-links tells
+pub up_from : (told known up : Bool) → told ≡ (known && up) → known ≡ true → up ≡ told
+up_from told true up is known = sym is
+up_from told false up is known = cc
+
+ok_where_up : (b : Bool) → b ≡ true → Ok ≡ (if b then Ok else Ignored)
+ok_where_up true is = refl
+ok_where_up false is = cc
+
+ignored_where_down : (b : Bool) → b ≡ false → Ignored ≡ (if b then Ok else Ignored)
+ignored_where_down true is = cc
+ignored_where_down false is = refl
+
+-- the fields of a half are its barriers
+half_fields : (t : Bool) (f : Fields) (be commit : ℕ) (b : Barriers) → t ≡ false → be ≡ b.be.0 → commit ≡ b.commit.0
+    → (if t then f else record { be = be; commit = commit }) ≡ record { be = b.be.0; commit = b.commit.0 }
+half_fields true f be commit b other be_is commit_is = cc
+half_fields false f be commit b other be_is commit_is = cc
+
+fields_are : (graph : Graph) (node : ℕ) (own : List Record) (r : Record) (moments : List Moment) (b : Barriers) → is_half graph node ≡ true
+    → moments_of (r ∷ own) ≡ moments → AreBarriers (ins_of graph node) moments b → fields graph node own r ≡ record { be = b.be.0; commit = b.commit.0 }
+fields_are graph node own r moments b half moments_are are =
+    half_fields (is_host graph node) _ (barrier_at plane.BestEffort graph node (r ∷ own)) (barrier_at plane.Commit graph node (r ∷ own)) b (no_host graph node half)
+    (ap (barrier plane.BestEffort (ins_of graph node)) moments_are ∙ sym are.be_is)
+    (ap (barrier plane.Commit (ins_of graph node)) moments_are ∙ sym are.commit_is)
+
+-- a packet on a link that is not up
+pub ignores : (graph : Graph) (node : ℕ) (own : List Record) (link : LinkId) (p : Packet) (place : ℕ) (keep : Bool) → is_half graph node ≡ true
+    → is_up (moments_of own) link.0 ≡ false → IsNodeStep graph node own (taken link p place keep (quiet_step Ignored))
+ignores graph node own link p place keep half down =
+    let r : Record = taken link p place keep (quiet_step Ignored) in
+    let none : received own r ≡ None = taken_ignored (moments_of own) link p place keep down in
+    record {
+      outcome_is = ignored_where_down (is_up (moments_of own) link.0) down;
+      downed_is = refl;
+      dropped_is = refl;
+      noted_is = refl;
+      stamped_is = refl;
+      fate_is = no_fate graph node own r (no_host graph node half);
+      logged_is = no_log graph node own r (no_host graph node half);
+      put_is =
+          sym (append-nil (routed (route graph (known_drops (r ∷ own)) node) (owed_by_take graph node (fields graph node own r) (received own r)))
+          ∙ ap (λ (o : Option (ℕ × Packet)). routed (route graph (known_drops (r ∷ own)) node) (owed_by_take graph node (fields graph node own r) o)) none);
+      unrouted_is = ap (λ (o : Option (ℕ × Packet)). lost (route graph (known_drops (r ∷ own)) node) (owed_by_take graph node (fields graph node own r) o)) (sym none);
+      control_is = refl;
+    }
+
+owed_by_half : (t : Bool) (x : Bool) (ps : List Packet) → t ≡ true → (if t && x then ps else []) ≡ (if x then ps else [])
+owed_by_half true x ps is = refl
+owed_by_half false x ps is = cc
+
+-- a packet that is received and goes on
+pub passes : (graph : Graph) (node : ℕ) (own : List Record) (link : LinkId) (p : Packet) (place : ℕ) (keep : Bool) (b : Barriers) (step : Step) → is_half graph node ≡ true
+    → known_drops own ≡ [] → is_up (moments_of own) link.0 ≡ true → AreBarriers (ins_of graph node) (Received link.0 p.be.0 p.commit.0 ∷ moments_of own) b
+    → step ≡ with_ways (route graph [] node) (passed_on b p) (quiet_step Ok) → IsNodeStep graph node own (taken link p place keep step)
+passes graph node own link p place keep b step half drops up are step_is =
+    let s : Step = with_ways (route graph [] node) (passed_on b p) (quiet_step Ok) in
+    let r : Record = taken link p place keep s in
+    let f : Fields = record { be = b.be.0; commit = b.commit.0 } in
+    let got : received own r ≡ Some (link.0, p) = taken_received (moments_of own) link p place keep up in
+    let moments_are : moments_of (r ∷ own) ≡ Received link.0 p.be.0 p.commit.0 ∷ moments_of own =
+    ap (λ (o : Option (ℕ × Packet)). with_received true o (moments_of own)) got in
+    let fields_is : fields graph node own r ≡ f = fields_are graph node own r (Received link.0 p.be.0 p.commit.0 ∷ moments_of own) b half moments_are are in
+    let drops_now : known_drops (r ∷ own) ≡ [] = ap (λ (ls : List LinkId). ls ++ []) drops in
+    let owes : owed_by_take graph node (fields graph node own r) (received own r) ≡ passed_on b p =
+    ap (λ (o : Option (ℕ × Packet)). owed_by_take graph node (fields graph node own r) o) got
+    ∙ ap (λ (g : Fields). owed_by_take graph node g (Some (link.0, p))) fields_is
+    ∙ owed_by_half (is_half graph node) _ (forwarded f p ∷ []) half in
+    subst (λ (x : Step). IsNodeStep graph node own (taken link p place keep x)) (sym step_is)
+    (record {
+      outcome_is = ok_where_up (is_up (moments_of own) link.0) up;
+      downed_is = refl;
+      dropped_is = refl;
+      noted_is = refl;
+      stamped_is = refl;
+      fate_is = no_fate graph node own r (no_host graph node half);
+      logged_is = no_log graph node own r (no_host graph node half);
+      put_is =
+          sym (append-nil (routed (route graph (known_drops (r ∷ own)) node) (owed_by_take graph node (fields graph node own r) (received own r)))
+          ∙ ap (λ (ls : List LinkId). routed (route graph ls node) (owed_by_take graph node (fields graph node own r) (received own r))) drops_now
+          ∙ ap (routed (route graph [] node)) owes);
+      unrouted_is =
+          zero-add (lost (route graph [] node) (passed_on b p))
+          ∙ sym (ap (λ (ls : List LinkId). lost (route graph ls node) (owed_by_take graph node (fields graph node own r) (received own r))) drops_now
+          ∙ ap (lost (route graph [] node)) owes);
+      control_is = refl;
+    })
+
+-- a tick
+pub ticks : (graph : Graph) (node : NodeId) (own : List Record) (now : Ts) (marks : List (LinkId × Ts)) (b : Barriers) (step : Step) → is_half graph node.0 ≡ true
+    → known_drops own ≡ [] → marks ≡ silent_marks graph.patience (ins_of graph node.0) (moments_of own) (quiet_calls own) now.0
+    → AreBarriers (ins_of graph node.0) (with_downed marks (moments_of own)) b
+    → step ≡ with_beacons (outs_of graph node.0) (record { be = b.be.0; commit = b.commit.0 }) (record (quiet_step Ok) { downed = marks })
+    → IsNodeStep graph node.0 own (ticked node now step)
+ticks graph node own now marks b step half drops marks_are are step_is =
+    let f : Fields = record { be = b.be.0; commit = b.commit.0 } in
+    let s : Step = with_beacons (outs_of graph node.0) f (record (quiet_step Ok) { downed = marks }) in
+    let r : Record = ticked node now s in
+    let fields_is : fields graph node.0 own r ≡ f = fields_are graph node.0 own r (with_downed marks (moments_of own)) b half refl are in
+    let drops_now : known_drops (r ∷ own) ≡ [] = ap (λ (ls : List LinkId). ls ++ []) drops in
+    subst (λ (x : Step). IsNodeStep graph node.0 own (ticked node now x)) (sym step_is)
+    (record {
+      outcome_is = refl;
+      downed_is = marks_are;
+      dropped_is = refl;
+      noted_is = refl;
+      stamped_is = refl;
+      fate_is = no_fate graph node.0 own r (no_host graph node.0 half);
+      logged_is = no_log graph node.0 own r (no_host graph node.0 half);
+      put_is =
+          sym (ap (λ (g : Fields). map (λ (l : LinkId). (l, beacon g)) (filter (λ (l : LinkId). not_dropped (known_drops (r ∷ own)) l.0) (outs_of graph node.0))) fields_is
+          ∙ ap (λ (ls : List LinkId). map (λ (l : LinkId). (l, beacon f)) (filter (λ (l : LinkId). not_dropped ls l.0) (outs_of graph node.0))) drops_now
+          ∙ ap (map (λ (l : LinkId). (l, beacon f))) (no_drop (outs_of graph node.0)));
+      unrouted_is = refl;
+      control_is = refl;
+    })

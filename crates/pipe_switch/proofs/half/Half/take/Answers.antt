@@ -1,0 +1,20 @@
+use Rattle.std.proofs.Common.{false}
+use Rattle.pipe_switch.proofs.half.Half.take.Goals as goal
+
+-- the place and what is kept make no difference to what the half keeps
+pub returns-clause-ok : goal.returns-clause-ok
+returns-clause-ok c = λ graph node own place keep stands comes.
+    let after = c.follow.ensures graph node own stands.links_are comes (c.in_ok-work_take.ensures graph node own 0 false stands comes) in
+    record {
+      rules = c.in_ok-work_take.ensures graph node own place keep stands comes;
+      stands = record {
+        half = stands.half;
+        links_are = record {
+          node_is = after.node_is;
+          outs_are = after.outs_are;
+          routes_are = after.routes_are;
+          ins_are = after.ins_are;
+          no_drops = after.no_drops;
+        };
+      };
+    }
