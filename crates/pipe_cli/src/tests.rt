@@ -291,6 +291,62 @@ fn ends(alloc: Global, first: &str, line: &str, lines: u32) -> Result<Status, Fa
     Ok(outcome.status)
 }
 
+// So many names of one kind, each with its end, as items of an array of TOML.
+fn push_names(plan: &mut String, kind: &str, count: u32, end: &str) -> Result<(), Fail> {
+    for at in 0..count {
+        write!(plan, "\"{kind}{at}{end}\", ")?;
+    }
+    Ok(())
+}
+
+fn push_cables(plan: &mut String) -> Result<(), Fail> {
+    for host in 0..64u32 {
+        let leaf = host / 2;
+        write!(plan, "\"h{host} t{leaf}\", ")?;
+    }
+    for leaf in 0..32u32 {
+        for spine in 0..13 {
+            write!(plan, "\"t{leaf} c{spine}\", ")?;
+        }
+        let spine = 13 + leaf % 19;
+        write!(plan, "\"t{leaf} c{spine}\", ")?;
+    }
+    Ok(())
+}
+
+// The largest network by name: 64 hosts at 32 leaves, and 32 spines of which 13 are joined to every leaf, with 512 cables.
+fn largest_plan(alloc: Global) -> Result<String, Fail> {
+    let mut plan = String::from_str(alloc, "hosts = [")?;
+    push_names(&mut plan, "h", 64, "")?;
+    plan.push_str("]\nswitches = [")?;
+    push_names(&mut plan, "t", 32, " 1")?;
+    push_names(&mut plan, "c", 32, " 2")?;
+    plan.push_str("]\ncables = [")?;
+    push_cables(&mut plan)?;
+    plan.push_str("]\n---\n")?;
+    Ok(plan)
+}
+
+#[test]
+fn runs_what_is_within_the_limits(rt: HostRuntime) -> Result<(), Fail> {
+    let plan = largest_plan(rt.alloc())?;
+    let table = [
+        (plan.as_str(), "tick c31.down 10\n", 1),
+        (
+            "star 64\n",
+            "send h0 best 10 h0= h1= h2= h3= h4= h5= h6= h7= h8= h9= h10= h11= h12= h13= h14= h63=\n",
+            1,
+        ),
+        // More than 3 MiB.
+        ("star 1\n", "lose 0 4294967295\n", 200_000),
+    ];
+    for (first, line, lines) in table {
+        let found = ends(rt.alloc(), first, line, lines)?;
+        assert_eq!(rt; found, Status::Ok, "{line} {lines}");
+    }
+    Ok(())
+}
+
 #[test]
 fn refuses_what_is_too_long(rt: HostRuntime) -> Result<(), Fail> {
     let too_long = |what, count| Status::TooLong { what, count };
