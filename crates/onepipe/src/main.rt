@@ -9,7 +9,7 @@ ghost use Rattle.std.specs.IoError.{error_kind};
 ghost use Rattle.std.specs.Process.{exit_status};
 ghost use Rattle.std.specs.Vec.Iter.{into_iter_items};
 ghost use Rattle.pipe_cli.specs.Status.{exit_number};
-ghost use Rattle.onepipe.specs.Ending.{EndsAsRun, IsExitNumber, status_without_words};
+ghost use Rattle.onepipe.specs.Ending.{EndsAsRun, status_without_words};
 
 use crate::streams::{StdSink, StdSource};
 use pipe_base::{List, Sink, Source};
@@ -61,7 +61,6 @@ fn ended<S: Source, K: Sink>(
     source: &mut S,
     sink: &mut K,
 ) -> ExitCode
-    ensures number { IsExitNumber (exit_status result) }
     ensures wordless { IfErr words (λ fault. exit_status result ≡ exit_number (status_without_words (error_kind fault))) }
     ensures untouched { OnErr words ((source.new ≡ source.old) × (sink.new ≡ sink.old)) }
     ensures ran { IfOk words (λ words. EndsAsRun (map string_bytes words) (S.left source.old) (S.left source.new) (K.written sink.old) (K.written sink.new) (S.faults source.old) (S.faults source.new) (K.faults sink.old) (K.faults sink.new) (exit_status result)) }
@@ -75,9 +74,7 @@ fn ended<S: Source, K: Sink>(
     }
 }
 
-fn main(rt: HostRuntime) -> ExitCode
-    ensures { IsExitNumber (exit_status result) }
-{
+fn main(rt: HostRuntime) -> ExitCode {
     let words = words_of(&rt);
     let mut source = StdSource::new(rt.reader());
     let mut sink = StdSink::new(io::writer(&rt));
