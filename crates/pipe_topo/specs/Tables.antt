@@ -9,7 +9,7 @@ use Rattle.pipe_topo.specs.declared.plan.CableEnd.TheVariants.{Host, Switch}
 
 -- A graph within the limits of networks: 64 hosts, 64 switches with two halves and a loop each, and 512 cables with two links each.
 pub record IsNetwork (graph : Graph) (switches : ℕ) : Type 0 where
-  pub joined : IsGraph graph
+  pub is_graph : IsGraph graph
   pub halves : graph.nodes ≡ graph.hosts + 2 * switches
   pub few_hosts : graph.hosts ≤ 64
   pub few_switches : switches ≤ 64

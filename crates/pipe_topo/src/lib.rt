@@ -18,6 +18,7 @@ mod tables;
 mod tests;
 mod topology;
 mod walk;
+mod wiring;
 
 pub use distances::{Distances, FAR};
 pub use fault::{TopoFault, What};
