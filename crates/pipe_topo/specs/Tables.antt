@@ -27,10 +27,11 @@ pub record HasTables (graph : Graph) (switches : ℕ) (ins outs : List (List Lin
   pub ins_are : IsTable graph (ins_of graph) ins
   pub outs_are : IsTable graph (outs_of graph) outs
 
--- where the links of a list begin and end
+-- where a link of a list begins
 abbrev pub tail_at : List Link → ℕ → ℕ
 tail_at links l = (slice_index_or links l no_link).tail.0
 
+-- where a link of a list ends
 abbrev pub head_at : List Link → ℕ → ℕ
 head_at links l = (slice_index_or links l no_link).head.0
 
