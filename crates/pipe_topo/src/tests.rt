@@ -1,21 +1,33 @@
-// Networks of known shape, each fault once, and sets and names. The helpers promise little, so that a test has few facts
-// to carry.
+// Networks of known shape, each fault once, and sets and names. Tables hold numbers and texts, and the helpers promise
+// little, so that a test has few facts to carry.
 ghost use Rattle.std.specs.Prelude.{◌≡◌, length, IfOk};
 
-use crate::{Cable, CableEnd, HostSet, LinkSet, Names, Plan, TopoFault, Topology, What};
-use CableEnd::{Host, Switch};
+use crate::{CableEnd, HostSet, LinkSet, Names, Plan, TopoFault, Topology};
 use pipe_base::{HostId, LinkId, List, NoMemory, NodeId, Ts};
 use std::alloc::Global;
 use std::process::Abort;
-use std::test::Fail;
 
-fn plan_of(alloc: Global, hosts: u16, levels: &[u8], cables: &[Cable]) -> Result<Plan, NoMemory> {
+// A cable between two ends: a host by its number, a switch by a hundred more.
+type Ends = (u16, u16);
+
+fn end_of(number: u16) -> CableEnd {
+    if number < 100 {
+        CableEnd::Host(number)
+    } else {
+        CableEnd::Switch(number - 100)
+    }
+}
+
+fn plan_of(alloc: Global, hosts: u16, levels: &[u8], cables: &[Ends]) -> Result<Plan, NoMemory> {
     let levels = List::from_vec(Vec::from_slice(alloc, levels)?);
-    let cables = List::from_vec(Vec::from_slice(alloc, cables)?);
+    let mut joined = List::new(alloc);
+    for (one, other) in cables {
+        joined.push((end_of(*one), end_of(*other)))?;
+    }
     Ok(Plan {
         hosts,
         levels,
-        cables,
+        cables: joined,
         patience: Ts(100),
     })
 }
@@ -28,19 +40,17 @@ fn build(rt: &impl Abort, alloc: Global, plan: &Plan) -> Result<Topology, TopoFa
 }
 
 // Two hosts under two switches, which two higher switches join.
-static TWO_WAYS: [Cable; 6] = [
-    (Host(0), Switch(0)),
-    (Host(1), Switch(1)),
-    (Switch(0), Switch(2)),
-    (Switch(0), Switch(3)),
-    (Switch(1), Switch(2)),
-    (Switch(1), Switch(3)),
+static TWO_WAYS: [Ends; 6] = [
+    (0, 100),
+    (1, 101),
+    (100, 102),
+    (100, 103),
+    (101, 102),
+    (101, 103),
 ];
 
-static TWO_WAYS_LEVELS: [u8; 4] = [1, 1, 2, 2];
-
 fn two_ways(rt: &impl Abort, alloc: Global) -> Result<Topology, TopoFault> {
-    let plan = plan_of(alloc, 2, &TWO_WAYS_LEVELS, &TWO_WAYS)?;
+    let plan = plan_of(alloc, 2, &[1, 1, 2, 2], &TWO_WAYS)?;
     build(rt, alloc, &plan)
 }
 
@@ -55,14 +65,13 @@ fn has_sizes(topology: &Topology, sizes: Sizes) -> bool {
 }
 
 #[test]
-fn networks_have_the_sizes_of_their_plan(rt: HostRuntime) -> Result<(), Fail> {
+fn networks_have_the_sizes_of_their_plan(rt: HostRuntime) -> Result<(), TopoFault> {
     let topology = two_ways(&rt, rt.alloc())?.try_clone()?;
-    assert!(rt; has_sizes(&topology, (2, 4, 10, 16)));
-    assert!(rt; topology.patience() == Ts(100));
+    assert!(rt; has_sizes(&topology, (2, 4, 10, 16)) && topology.patience() == Ts(100));
     Ok(())
 }
 
-// The tail and the head.
+// The tail and the head of each link.
 static ENDS: [(u16, u16); 16] = [
     (0, 2),
     (3, 0),
@@ -89,10 +98,10 @@ fn has_ends(topology: &Topology, link: u16, ends: (u16, u16)) -> bool {
 }
 
 #[test]
-fn links_are_numbered_by_cable_and_switch(rt: HostRuntime) -> Result<(), Fail> {
+fn links_are_numbered_by_cable_and_switch(rt: HostRuntime) -> Result<(), TopoFault> {
     let topology = two_ways(&rt, rt.alloc())?;
     for (link, ends) in ENDS.iter().enumerate() {
-        assert!(rt; has_ends(&topology, link as u16, *ends), "ends of {link}");
+        assert!(rt; has_ends(&topology, link as u16, *ends));
     }
     Ok(())
 }
@@ -122,13 +131,10 @@ fn has_links(topology: &Topology, node: u16, ins: &[u16], outs: &[u16]) -> bool 
 }
 
 #[test]
-fn nodes_list_their_links(rt: HostRuntime) -> Result<(), Fail> {
+fn nodes_list_their_links(rt: HostRuntime) -> Result<(), TopoFault> {
     let topology = two_ways(&rt, rt.alloc())?;
     for (node, (ins, outs)) in LINKS.iter().enumerate() {
-        assert!(rt;
-            has_links(&topology, node as u16, ins, outs),
-            "links of {node}"
-        );
+        assert!(rt; has_links(&topology, node as u16, ins, outs));
     }
     Ok(())
 }
@@ -170,33 +176,29 @@ fn feeds_without(
     topology.feeds(alloc, HostId(0), LinkId(14), &by)
 }
 
-// The first host reaches the second, and feeds the loop of the third switch.
-fn ways_without(
-    rt: &impl Abort,
-    alloc: Global,
-    topology: &Topology,
-    gone: u16,
-) -> Result<(bool, bool), NoMemory> {
-    Ok((
-        reaches_without(rt, alloc, topology, gone)?,
-        feeds_without(rt, alloc, topology, gone)?,
-    ))
-}
+// Without a link: the first host reaches the second, and feeds the loop of the third switch.
+static WAYS: [(u16, bool, bool); 3] = [(1, true, true), (4, true, false), (0, false, false)];
 
 #[test]
-fn hosts_reach_by_links_that_are_left(rt: HostRuntime) -> Result<(), Fail> {
+fn hosts_reach_by_links_that_are_left(rt: HostRuntime) -> Result<(), TopoFault> {
     let topology = two_ways(&rt, rt.alloc())?;
-    for (gone, ways) in [(1, (true, true)), (4, (true, false)), (0, (false, false))] {
-        assert!(rt;
-            ways_without(&rt, rt.alloc(), &topology, gone)? == ways,
-            "without {gone}"
-        );
+    for (gone, reached, _) in &WAYS {
+        assert!(rt; reaches_without(&rt, rt.alloc(), &topology, *gone)? == *reached);
     }
     Ok(())
 }
 
 #[test]
-fn sets_of_links(rt: HostRuntime) -> Result<(), Fail> {
+fn hosts_feed_by_links_that_are_left(rt: HostRuntime) -> Result<(), TopoFault> {
+    let topology = two_ways(&rt, rt.alloc())?;
+    for (gone, _, fed) in &WAYS {
+        assert!(rt; feeds_without(&rt, rt.alloc(), &topology, *gone)? == *fed);
+    }
+    Ok(())
+}
+
+#[test]
+fn sets_of_links(rt: HostRuntime) -> Result<(), NoMemory> {
     let mut links = LinkSet::none(rt.alloc(), 3)?;
     links.insert(LinkId(2));
     let rest = links.try_clone()?.rest()?;
@@ -205,106 +207,83 @@ fn sets_of_links(rt: HostRuntime) -> Result<(), Fail> {
     Ok(())
 }
 
-fn fault_of(
-    rt: &impl Abort,
-    alloc: Global,
-    hosts: u16,
-    levels: &[u8],
-    cables: &[Cable],
-) -> Result<Option<TopoFault>, NoMemory> {
-    let plan = plan_of(alloc, hosts, levels, cables)?.try_clone()?;
-    Ok(build(rt, alloc, &plan).err())
+// What the first fault is, as it is shown.
+fn has_fault(rt: &impl Abort, alloc: Global, plan: &Plan, shown: &str) -> Result<bool, NoMemory> {
+    let copy = plan.try_clone()?;
+    let fault = build(rt, alloc, &copy).err();
+    Ok(format!(in alloc; "{fault:?}")?.as_str() == shown)
 }
 
-// So many switches of level 1, and one cable so many times.
-fn crowded(
-    rt: &impl Abort,
-    alloc: Global,
-    hosts: u16,
-    switches: usize,
-    cables: usize,
-) -> Result<Option<TopoFault>, NoMemory> {
-    let levels = vec![in alloc; 1; switches]?;
-    let cables = vec![in alloc; (Host(0), Switch(0)); cables]?;
-    fault_of(rt, alloc, hosts, &levels, &cables)
-}
-
-#[test]
-fn too_many_are_told(rt: HostRuntime) -> Result<(), Fail> {
-    for (hosts, switches, what, count) in [
-        (65, 65, What::Hosts, 65),
-        (1, 65, What::Switches, 65),
-        (1, 1, What::Cables, 513),
-    ] {
-        let fault = TopoFault::TooMany { what, count };
-        assert!(rt; crowded(&rt, rt.alloc(), hosts, switches, 513)? == Some(fault));
-    }
-    Ok(())
-}
-
-static FAULTS: [(u16, &[u8], &[Cable], TopoFault); 10] = [
-    (0, &[], &[], TopoFault::NoHost),
-    (2, &[], &[(Host(0), Host(1))], TopoFault::Level { cable: 0 }),
+static FAULTS: [(u16, &[u8], &[Ends], &str); 10] = [
+    (0, &[], &[], "Some(NoHost)"),
+    (2, &[], &[(0, 1)], "Some(Level { cable: 0 })"),
     (
         1,
         &[1, 1],
-        &[
-            (Host(0), Switch(0)),
-            (Host(0), Switch(0)),
-            (Switch(1), Switch(0)),
-        ],
-        TopoFault::Level { cable: 2 },
+        &[(0, 100), (0, 100), (101, 100)],
+        "Some(Level { cable: 2 })",
     ),
     (
         1,
         &[1],
-        &[(Host(0), Switch(0)), (Switch(0), Host(0))],
-        TopoFault::DoubleCable { cable: 1 },
+        &[(0, 100), (100, 0)],
+        "Some(DoubleCable { cable: 1 })",
     ),
     (
         1,
         &[1],
-        &[(Host(0), Switch(0)), (Host(0), Switch(0))],
-        TopoFault::DoubleCable { cable: 1 },
+        &[(0, 100), (0, 100)],
+        "Some(DoubleCable { cable: 1 })",
     ),
-    (
-        1,
-        &[1, 2],
-        &[(Host(0), Switch(0))],
-        TopoFault::Idle { switch: 1 },
-    ),
+    (1, &[1, 2], &[(0, 100)], "Some(Idle { switch: 1 })"),
     (
         1,
         &[2, 1],
-        &[(Host(0), Switch(0)), (Switch(0), Switch(1))],
-        TopoFault::Idle { switch: 1 },
+        &[(0, 100), (100, 101)],
+        "Some(Idle { switch: 1 })",
     ),
-    (1, &[], &[], TopoFault::Apart { a: 0, b: 0 }),
+    (1, &[], &[], "Some(Apart { a: 0, b: 0 })"),
     (
         2,
         &[1, 1],
-        &[(Host(0), Switch(0)), (Host(1), Switch(1))],
-        TopoFault::Apart { a: 0, b: 1 },
+        &[(0, 100), (1, 101)],
+        "Some(Apart { a: 0, b: 1 })",
     ),
     (
         3,
         &[1, 1],
-        &[
-            (Host(2), Switch(1)),
-            (Host(0), Switch(0)),
-            (Switch(0), Host(1)),
-        ],
-        TopoFault::Apart { a: 0, b: 2 },
+        &[(2, 101), (0, 100), (100, 1)],
+        "Some(Apart { a: 0, b: 2 })",
     ),
 ];
 
 #[test]
-fn the_first_fault_is_told(rt: HostRuntime) -> Result<(), Fail> {
-    for (case, (hosts, levels, cables, fault)) in FAULTS.iter().enumerate() {
-        assert!(rt;
-            fault_of(&rt, rt.alloc(), *hosts, levels, cables)? == Some(*fault),
-            "case {case}"
-        );
+fn the_first_fault_is_told(rt: HostRuntime) -> Result<(), NoMemory> {
+    for (hosts, levels, cables, shown) in &FAULTS {
+        let plan = plan_of(rt.alloc(), *hosts, levels, cables)?;
+        assert!(rt; has_fault(&rt, rt.alloc(), &plan, shown)?);
+    }
+    Ok(())
+}
+
+// So many switches of level 1, and one cable 513 times.
+fn crowd(alloc: Global, hosts: u16, switches: usize) -> Result<Plan, NoMemory> {
+    let levels = vec![in alloc; 1; switches]?;
+    let cables = vec![in alloc; (0, 100); 513]?;
+    plan_of(alloc, hosts, &levels, &cables)
+}
+
+static CROWDS: [(u16, usize, &str); 3] = [
+    (65, 65, "Some(TooMany { what: Hosts, count: 65 })"),
+    (1, 65, "Some(TooMany { what: Switches, count: 65 })"),
+    (1, 1, "Some(TooMany { what: Cables, count: 513 })"),
+];
+
+#[test]
+fn too_many_are_told(rt: HostRuntime) -> Result<(), NoMemory> {
+    for (hosts, switches, shown) in &CROWDS {
+        let plan = crowd(rt.alloc(), *hosts, *switches)?;
+        assert!(rt; has_fault(&rt, rt.alloc(), &plan, shown)?);
     }
     Ok(())
 }
@@ -320,16 +299,16 @@ fn largest_levels(alloc: Global) -> Result<Vec<u8>, NoMemory> {
 }
 
 // Each host below a low switch, each low switch below 13 or 14 middle ones, and these below the top.
-fn largest_cables(alloc: Global) -> Result<Vec<Cable>, NoMemory> {
+fn largest_cables(alloc: Global) -> Result<Vec<Ends>, NoMemory> {
     let mut cables = vec![in alloc]?;
     for host in 0..64 {
-        cables.push((Host(host), Switch(host % 31)))?;
+        cables.push((host, 100 + host % 31))?;
     }
-    for middle in 31..63 {
-        cables.push((Switch(63), Switch(middle)))?;
+    for middle in 131..163 {
+        cables.push((163, middle))?;
     }
     for way in 0..416 {
-        cables.push((Switch(way % 31), Switch(31 + (way % 31 + way / 31) % 32)))?;
+        cables.push((100 + way % 31, 131 + (way % 31 + way / 31) % 32))?;
     }
     Ok(cables)
 }
@@ -345,14 +324,14 @@ fn is_built(rt: &impl Abort, alloc: Global, plan: &Plan, sizes: Sizes) -> Result
 }
 
 #[test]
-fn the_largest_network_is_built(rt: HostRuntime) -> Result<(), Fail> {
+fn the_largest_network_is_built(rt: HostRuntime) -> Result<(), TopoFault> {
     let plan = largest(rt.alloc())?;
     assert!(rt; is_built(&rt, rt.alloc(), &plan, (64, 64, 192, 1088))?);
     Ok(())
 }
 
 #[test]
-fn the_largest_star_is_built(rt: HostRuntime) -> Result<(), Fail> {
+fn the_largest_star_is_built(rt: HostRuntime) -> Result<(), TopoFault> {
     let star = Plan::star(rt.alloc(), 64, Ts(1))?;
     assert!(rt; is_built(&rt, rt.alloc(), &star, (64, 1, 66, 129))?);
     Ok(())
@@ -366,16 +345,11 @@ fn add(rt: &impl Abort, names: &mut Names, name: &str) -> Result<bool, NoMemory>
 // Each name, and whether it is new.
 static ADDED: [(&str, bool); 4] = [("h1", true), ("h0", true), ("h1", false), ("s0", true)];
 
-fn add_all(rt: &impl Abort, names: &mut Names) -> Result<(), NoMemory> {
-    for (name, new) in &ADDED {
-        assert!(rt; add(rt, names, name)? == *new, "{name}");
-    }
-    Ok(())
-}
-
 fn three_names(rt: &impl Abort, alloc: Global) -> Result<Names, NoMemory> {
     let mut names = Names::new(alloc);
-    add_all(rt, &mut names)?;
+    for (name, new) in &ADDED {
+        assert!(rt; add(rt, &mut names, name)? == *new);
+    }
     names.try_clone()
 }
 
@@ -383,18 +357,15 @@ fn is_named(names: &Names, number: u16, name: &str) -> bool {
     names.number(name) == Some(number) && number < names.len() && names.name(number) == name
 }
 
-fn is_absent(names: &Names, name: &str) -> bool {
-    names.number(name).is_none()
-}
+static NUMBERS: [(&str, u16); 3] = [("h1", 0), ("h0", 1), ("s0", 2)];
 
 #[test]
-fn names_keep_their_numbers(rt: HostRuntime) -> Result<(), Fail> {
+fn names_keep_their_numbers(rt: HostRuntime) -> Result<(), NoMemory> {
     let names = three_names(&rt, rt.alloc())?;
-    for (name, number) in [("h1", 0), ("h0", 1), ("s0", 2)] {
-        assert!(rt; is_named(&names, number, name), "{name}");
+    for (name, number) in &NUMBERS {
+        assert!(rt; is_named(&names, *number, name));
     }
-    assert!(rt; is_absent(&names, "h2"));
-    assert!(rt; names.len() == 3);
+    assert!(rt; names.number("h2").is_none() && names.len() == 3);
     Ok(())
 }
 
@@ -415,11 +386,12 @@ fn some_hosts() -> HostSet {
     hosts
 }
 
+static THERE: [(u16, bool); 5] = [(0, false), (1, true), (61, true), (62, false), (63, true)];
+
 #[test]
 fn sets_of_hosts(rt: HostRuntime) {
-    for (host, there) in [(0, false), (1, true), (61, true), (62, false), (63, true)] {
-        assert!(rt; has(some_hosts(), host) == there, "{host}");
+    for (host, there) in &THERE {
+        assert!(rt; has(some_hosts(), *host) == *there);
     }
-    assert!(rt; has(HostSet::first(64), 63));
-    assert!(rt; !has(HostSet::none(), 63));
+    assert!(rt; has(HostSet::first(64), 63) && !has(HostSet::none(), 63));
 }
