@@ -6,6 +6,7 @@ use Rattle.std.specs.Str.Lines.{lines}
 use Rattle.pipe_text.specs.Words.{words_of}
 use Rattle.pipe_text_plan.specs.Pieces.{pieces}
 
+-- the two parts of an input
 pub record Division : Type 0 where
   -- the topology is the line of a star
   pub star : Bool
