@@ -1,6 +1,6 @@
 use Rattle.std.proofs.Common.{ℕ, ◌+◌, ◌*◌, length, ap}
 use Rattle.pipe_topo.proofs.TableLaws.{made_few, made_heads, made_tails, made_tables}
-use Rattle.pipe_topo.proofs.tables.topology_of.Goals as goal
+use Rattle.pipe_topo.proofs.tables.wiring_of.Goals as goal
 
 pub ins_table-requires-clause-few : goal.ins_table-requires-clause-few
 ins_table-requires-clause-few c =
