@@ -1,6 +1,5 @@
-// Standard input and output as a source and a sink. They tell no bytes and count their faults: the trusted edge.
-ghost use Rattle.std.specs.Prelude.{None};
-
+// Standard input and output as a source and a sink. They tell the bytes that the kit's reader and writer tell, and count
+// their faults.
 use pipe_base::{Failed, Sink, Source};
 use std::io::{Read, Write};
 
@@ -18,7 +17,7 @@ impl<R> StdSource<R> {
 }
 
 impl<R: Read> Source for StdSource<R> {
-    ghost left = { λ s. None };
+    ghost left = { λ s. R.remaining s.reader };
 
     ghost faults = { λ s. s.faults };
 
@@ -47,7 +46,7 @@ impl<W> StdSink<W> {
 }
 
 impl<W: Write> Sink for StdSink<W> {
-    ghost written = { λ s. None };
+    ghost written = { λ s. W.contents s.writer };
 
     ghost faults = { λ s. s.faults };
 

@@ -1,5 +1,5 @@
 -- What the status of a call has to do with what was read and written.
-use Rattle.std.specs.Prelude.{◌≡◌, ◌⊎◌, ℕ, ◌≤◌, List, length, reverse, take, Option, Some}
+use Rattle.std.specs.Prelude.{◌≡◌, ◌≢◌, ◌⊎◌, ℕ, ◌<◌, ◌≤◌, List, length, reverse, take, Option, Some}
 use Rattle.std.specs.Prelude as result
 use Rattle.std.specs.Io.KnownBytes.{Appends, Consumes, IsAtEnd}
 use Rattle.pipe_base.specs.Outside.{Rose}
@@ -49,18 +49,20 @@ IsOfInput left rest (BadSchedule line kind) = Asks left rest (BadSchedule line k
 IsOfInput left rest (TooLong what count) = Asks left rest (TooLong what count)
 IsOfInput left rest NoMemory = Unit {0}
 
--- A read or a write failed only where that count rose; Ok comes only where none rose.
+-- A failed read is told by its status and by no other, and a failed write by its own: there that count rose, and with every
+-- other status it stays as it was.
 pub record IsCaused (status : Status) (read_before read_after write_before write_after : ℕ) : Type 0 where
   pub read : status ≡ ReadFault → Rose read_before read_after
+  pub no_read : status ≢ ReadFault → read_after ≡ read_before
   pub write : status ≡ WriteFault → Rose write_before write_after
-  pub neither : status ≡ Ok → (read_after ≡ read_before) × (write_after ≡ write_before)
+  pub no_write : status ≢ WriteFault → write_after ≡ write_before
 
--- with Ok the text was written whole, with a failed write a part from its beginning, else there is none
+-- with Ok the text was written whole, with a failed write a part from its beginning and not all, else there is none
 abbrev pub IsWritten : Status → Option (List ℕ) → Option (List ℕ) → List ℕ → Type 0
 IsWritten Ok old new text = Appends old new text
 IsWritten Usage old new text = ⊥
 IsWritten ReadFault old new text = ⊥
-IsWritten WriteFault old new text = (n : ℕ) × ((n ≤ length text) × Appends old new (take n text))
+IsWritten WriteFault old new text = (n : ℕ) × ((n < length text) × Appends old new (take n text))
 IsWritten (BadTopology fault) old new text = ⊥
 IsWritten (BadSchedule line kind) old new text = ⊥
 IsWritten (TooLong what count) old new text = ⊥

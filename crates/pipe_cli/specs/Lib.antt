@@ -5,3 +5,4 @@ pub mod Read
 pub mod Replay
 pub mod Running
 pub mod Status
+pub mod Write

@@ -23,6 +23,7 @@ pub fn read_all<S: Source>(alloc: Global, source: &mut S) -> Result<Vec<u8>, Rea
     ensures read { IfOk result (λ bytes. WasRead (S.left source.old) (S.left source.new) bytes.items) }
     ensures steady { OnOk result (S.faults source.new ≡ S.faults source.old) }
     ensures failed { result ≡ Err ReadStop.Failed → Rose (S.faults source.old) (S.faults source.new) }
+    ensures kept { result ≡ Err ReadStop.NoMemory → S.faults source.new ≡ S.faults source.old }
 {
     let mut bytes = Vec::new(alloc);
     let mut buffer = [0; BUFFER];

@@ -1,11 +1,10 @@
 // The program over the forms in memory: worked inputs with their logs, refusals with their lines, faults of the outside.
 
-ghost use Rattle.std.specs.Prelude.{◌<◌};
-
-use crate::{Status, Words, exit_number, run};
+use crate::{Outcome, Status, Words, exit_number, run};
 use pipe_base::{
     LinkId, List, MemorySink, MemorySource, Packet, PacketKind, Size, SteadySink, SteadySource,
 };
+use pipe_model::Record;
 use pipe_text::LineKind;
 use pipe_text_plan::{KeyName, PlanFault};
 use pipe_topo::TopoFault;
@@ -29,6 +28,14 @@ struct Ran {
     records: usize,
 }
 
+impl Ran {
+    fn is(&self, status: Status, text: &str, records: usize) -> bool {
+        self.status == status
+            && self.written.as_slice() == text.as_bytes()
+            && self.records == records
+    }
+}
+
 fn words(alloc: Global, texts: &[&str]) -> Result<Words, Fail> {
     let mut words = List::new(alloc);
     for text in texts {
@@ -37,18 +44,17 @@ fn words(alloc: Global, texts: &[&str]) -> Result<Words, Fail> {
     Ok(words)
 }
 
+// Runs these words over this input, with these calls that fail and a sink that takes ten bytes a call.
 fn run_on(
     alloc: Global,
+    texts: &[&str],
     input: &str,
     reads: &[u32],
-    most: usize,
     writes: &[u32],
-) -> Result<Ran, Fail>
-    requires { 0 < most }
-{
+) -> Result<Ran, Fail> {
     let mut source = MemorySource::new(alloc, input.as_bytes(), reads)?;
-    let mut sink = MemorySink::new(alloc, 1000, most, writes)?;
-    let outcome = run(alloc, &words(alloc, &["replay"])?, &mut source, &mut sink);
+    let mut sink = MemorySink::new(alloc, 1000, 10, writes)?;
+    let outcome = run(alloc, &words(alloc, texts)?, &mut source, &mut sink);
     Ok(Ran {
         status: outcome.status,
         written: sink.bytes().to_vec(alloc)?,
@@ -56,61 +62,60 @@ fn run_on(
     })
 }
 
+static LOGS: [(&str, &str, usize); 8] = [
+    ("star 2", NO_LOGS, 0),
+    (TWO_HOSTS, TWO_LOGS, 12),
+    // The minimum is over all in-links, also one that sent nothing.
+    (
+        "star 2\nsend h0 best 10 h1=6869\ntick h0 20\ntake 0 0\ntake 0 0\ntick s0.up 0\ntake 4 0\ntake 4 0\n\
+         tick s0.down 0\ntake 3 0\ntake 3 0\n",
+        NO_LOGS,
+        10,
+    ),
+    // Two hosts stamp the same timestamp: the sender's number decides.
+    (
+        "star 2\nsend h0 best 10 h0=a0 h1=a1\nsend h1 best 10 h0=b0 h1=b1\ntake 0 0\ntake 0 0\ntake 2 0\ntake 2 0\n\
+         take 4 0\ntake 4 0\ntake 4 0\ntake 4 0\ntake 1 0\ntake 1 0\ntake 3 0\ntake 3 0\ntick h0 11\ntick h1 11\n\
+         take 0 0\ntake 2 0\ntick s0.up 0\ntake 4 0\ntick s0.down 0\ntake 1 0\ntake 3 0\n",
+        "log h0 best 2\n10 h0 a0\n10 h1 b0\nlog h0 reliable 0\nlog h1 best 2\n10 h0 a1\n10 h1 b1\nlog h1 reliable 0\n",
+        23,
+    ),
+    // The barrier is 10 at both hosts, and 10 is not below 10.
+    (
+        "star 2\nsend h0 best 10 h0=a0 h1=a1\nsend h1 best 10 h0=b0 h1=b1\ntake 0 0\ntake 0 0\ntake 2 0\ntake 2 0\n\
+         take 4 0\ntake 4 0\ntake 4 0\ntake 4 0\ntake 1 0\ntake 1 0\ntake 3 0\ntake 3 0\n",
+        NO_LOGS,
+        14,
+    ),
+    // A host that logged 40 stamps above it, whatever its clock reads.
+    (
+        "star 2\nsend h0 best 40 h1=01\ntick h0 50\ntick h1 45\ntake 0 0\ntake 0 0\ntake 2 0\ntick s0.up 0\n\
+         take 4 0\ntake 4 0\ntick s0.down 0\ntake 3 0\ntake 3 0\nsend h1 best 5 h0=02\ntick h0 60\ntick h1 60\n\
+         take 2 0\ntake 2 0\ntake 0 0\ntick s0.up 0\ntake 4 0\ntake 4 0\ntick s0.down 0\ntake 1 0\ntake 1 0\ntake 1 0\n",
+        "log h0 best 1\n45 h1 02\nlog h0 reliable 0\nlog h1 best 1\n40 h0 01\nlog h1 reliable 0\n",
+        25,
+    ),
+    // A repeat is not logged twice. Lines may end with a carriage return, words may stand apart.
+    (
+        "star 2\r\nsend h0 best 10 h1=6869\ntick h0 20\n\n# a note\ntick \t h1 15 \ntake 0 0\ntake 0 0\ntake 2 0\n\
+         tick s0.up 0\ntake 4 0\ntake 4 0\ntick s0.down 0\ntake 3 0 keep\ntake 3 0\ntake 3 0",
+        TWO_LOGS,
+        13,
+    ),
+    // What is lost is not logged; an empty body is a dash.
+    (
+        "star 1\nsend h0 best 1 h0=\nsend h0 best 1 h0=ff\nlose 0 1\ntick h0 9\ntake 0 0\ntake 0 0\ntake 2 0\n\
+         tick s0.up 0\ntake 2 0\ntick s0.down 0\ntake 1 0\ntake 1 0\n",
+        "log h0 best 1\n1 h0 -\nlog h0 reliable 0\n",
+        12,
+    ),
+];
+
 #[test]
 fn writes_the_logs_of_a_schedule(rt: HostRuntime) -> Result<(), Fail> {
-    let table = [
-        ("star 2", NO_LOGS, 0),
-        (TWO_HOSTS, TWO_LOGS, 12),
-        // The minimum is over all in-links, also one that sent nothing.
-        (
-            "star 2\nsend h0 best 10 h1=6869\ntick h0 20\ntake 0 0\ntake 0 0\ntick s0.up 0\ntake 4 0\ntake 4 0\n\
-             tick s0.down 0\ntake 3 0\ntake 3 0\n",
-            NO_LOGS,
-            10,
-        ),
-        // Two hosts stamp the same timestamp: the sender's number decides.
-        (
-            "star 2\nsend h0 best 10 h0=a0 h1=a1\nsend h1 best 10 h0=b0 h1=b1\ntake 0 0\ntake 0 0\ntake 2 0\ntake 2 0\n\
-             take 4 0\ntake 4 0\ntake 4 0\ntake 4 0\ntake 1 0\ntake 1 0\ntake 3 0\ntake 3 0\ntick h0 11\ntick h1 11\n\
-             take 0 0\ntake 2 0\ntick s0.up 0\ntake 4 0\ntick s0.down 0\ntake 1 0\ntake 3 0\n",
-            "log h0 best 2\n10 h0 a0\n10 h1 b0\nlog h0 reliable 0\nlog h1 best 2\n10 h0 a1\n10 h1 b1\nlog h1 reliable 0\n",
-            23,
-        ),
-        // The barrier is 10 at both hosts, and 10 is not below 10.
-        (
-            "star 2\nsend h0 best 10 h0=a0 h1=a1\nsend h1 best 10 h0=b0 h1=b1\ntake 0 0\ntake 0 0\ntake 2 0\ntake 2 0\n\
-             take 4 0\ntake 4 0\ntake 4 0\ntake 4 0\ntake 1 0\ntake 1 0\ntake 3 0\ntake 3 0\n",
-            NO_LOGS,
-            14,
-        ),
-        // A host that logged 40 stamps above it, whatever its clock reads.
-        (
-            "star 2\nsend h0 best 40 h1=01\ntick h0 50\ntick h1 45\ntake 0 0\ntake 0 0\ntake 2 0\ntick s0.up 0\n\
-             take 4 0\ntake 4 0\ntick s0.down 0\ntake 3 0\ntake 3 0\nsend h1 best 5 h0=02\ntick h0 60\ntick h1 60\n\
-             take 2 0\ntake 2 0\ntake 0 0\ntick s0.up 0\ntake 4 0\ntake 4 0\ntick s0.down 0\ntake 1 0\ntake 1 0\ntake 1 0\n",
-            "log h0 best 1\n45 h1 02\nlog h0 reliable 0\nlog h1 best 1\n40 h0 01\nlog h1 reliable 0\n",
-            25,
-        ),
-        // A repeat is not logged twice. Lines may end with a carriage return, words may stand apart.
-        (
-            "star 2\r\nsend h0 best 10 h1=6869\ntick h0 20\n\n# a note\ntick \t h1 15 \ntake 0 0\ntake 0 0\ntake 2 0\n\
-             tick s0.up 0\ntake 4 0\ntake 4 0\ntick s0.down 0\ntake 3 0 keep\ntake 3 0\ntake 3 0",
-            TWO_LOGS,
-            13,
-        ),
-        // What is lost is not logged; an empty body is a dash.
-        (
-            "star 1\nsend h0 best 1 h0=\nsend h0 best 1 h0=ff\nlose 0 1\ntick h0 9\ntake 0 0\ntake 0 0\ntake 2 0\n\
-             tick s0.up 0\ntake 2 0\ntick s0.down 0\ntake 1 0\ntake 1 0\n",
-            "log h0 best 1\n1 h0 -\nlog h0 reliable 0\n",
-            12,
-        ),
-    ];
-    for (input, text, records) in table {
-        let ran = run_on(rt.alloc(), input, &[], 1000, &[])?;
-        assert_eq!(rt; ran.status, Status::Ok, "{input}");
-        assert_eq!(rt; ran.written.as_slice(), text.as_bytes(), "{input}");
-        assert_eq!(rt; ran.records, records, "{input}");
+    for (input, text, records) in &LOGS {
+        let ran = run_on(rt.alloc(), &["replay"], input, &[], &[])?;
+        assert!(rt; ran.is(Status::Ok, text, *records), "{input}");
     }
     Ok(())
 }
@@ -120,6 +125,13 @@ const TWO_LEAVES: &str =
     "patience = 100\nhosts = [\"h0\", \"h1\"]\nswitches = [\"t0 1\", \"t1 1\", \"c0 2\", \"c1 2\"]\n\
      cables = [\"h0 t0\", \"h1 t1\", \"t0 c0\", \"t0 c1\", \"t1 c0\", \"t1 c1\"]\n---\n\
      send h0 best 10 h1=aa\ntake 0 0\nsend h0 best 20 h0=bb\ntake 0 0\n";
+
+// With ample memory, over a source and a sink that never fail.
+fn outcome_of(alloc: Global, input: &str) -> Result<Outcome, Fail> {
+    let mut source = SteadySource::new(alloc, input.as_bytes())?;
+    let words = words(alloc, &["replay"])?;
+    Ok(run(alloc, &words, &mut source, &mut SteadySink::new()))
+}
 
 // The link, the sender, the receiver, the timestamp and the barriers of a message on its way.
 fn way(put: &(LinkId, Packet)) -> [u64; 6] {
@@ -134,249 +146,316 @@ fn way(put: &(LinkId, Packet)) -> [u64; 6] {
     ]
 }
 
+static WAYS: [[u64; 6]; 4] = [
+    [0, 0, 1, 10, 10, 11],
+    [6, 0, 1, 10, 10, 11],
+    [0, 0, 0, 20, 20, 21],
+    [12, 0, 0, 20, 20, 21],
+];
+
+// Whether the record puts this message alone.
+fn puts(record: &Record, expected: &[u64; 6]) -> bool {
+    match record.step.put.as_slice() {
+        [put] => put.1.kind == PacketKind::Plain && way(put) == *expected,
+        _ => false,
+    }
+}
+
 #[test]
 fn goes_up_to_a_spine_where_it_must_and_turns_where_it_can(rt: HostRuntime) -> Result<(), Fail> {
-    let alloc = rt.alloc();
-    let mut source = SteadySource::new(alloc, TWO_LEAVES.as_bytes())?;
-    let outcome = run(
-        alloc,
-        &words(alloc, &["replay"])?,
-        &mut source,
-        &mut SteadySink::new(),
-    );
-    assert_eq!(rt; outcome.status, Status::Ok);
-    let ways = [
-        [0, 0, 1, 10, 10, 11],
-        [6, 0, 1, 10, 10, 11],
-        [0, 0, 0, 20, 20, 21],
-        [12, 0, 0, 20, 20, 21],
-    ];
-    assert_eq!(rt; outcome.trace.len(), ways.len());
-    for (record, expected) in outcome.trace.as_slice().iter().zip(ways) {
-        let put = record.step.put.as_slice();
-        assert_eq!(rt; put.len(), 1);
-        assert_eq!(rt; put[0].1.kind, PacketKind::Plain);
-        assert_eq!(rt; way(&put[0]), expected);
+    let outcome = outcome_of(rt.alloc(), TWO_LEAVES)?;
+    assert!(rt; outcome.status == Status::Ok && outcome.trace.len() == WAYS.len());
+    for (record, expected) in outcome.trace.as_slice().iter().zip(&WAYS) {
+        assert!(rt; puts(record, expected));
     }
     Ok(())
 }
+
+static FAULTS: [(&str, Status); 16] = [
+    ("", Status::BadTopology(PlanFault::NoMark)),
+    ("hosts = [\"h0\"]\n", Status::BadTopology(PlanFault::NoMark)),
+    ("star 65\nfly\n", Status::BadTopology(PlanFault::Star)),
+    ("star 2 0\n", Status::BadTopology(PlanFault::Star)),
+    (
+        "hosts = [\"h0\", \"h1\"]\nswitches = []\ncables = [\"h0 h1\"]\n---\n",
+        Status::BadTopology(PlanFault::Topo(TopoFault::Level { cable: 0 })),
+    ),
+    (
+        "hosts = [\"h0\", \"h1\"]\nswitches = [\"s0 1\", \"s1 1\"]\ncables = [\"h0 s0\", \"h1 s1\"]\n---\n",
+        Status::BadTopology(PlanFault::Topo(TopoFault::Apart { a: 0, b: 1 })),
+    ),
+    (
+        "hosts = []\nswitches = []\ncables = []\n---\n",
+        Status::BadTopology(PlanFault::Topo(TopoFault::NoHost)),
+    ),
+    (
+        "hosts = [\"h0\"]\nswitches = [\"s0 1\"]\ncables = [\"h0 s0\", \"s0 h0\"]\n---\n",
+        Status::BadTopology(PlanFault::Topo(TopoFault::DoubleCable { cable: 1 })),
+    ),
+    (
+        "hosts = [\"h0\"]\nswitches = [\"s0 1\", \"s1 2\"]\ncables = [\"h0 s0\"]\n---\n",
+        Status::BadTopology(PlanFault::Topo(TopoFault::Idle { switch: 1 })),
+    ),
+    (
+        "hosts = [\"h0\"]\nswitches = []\n---\n",
+        Status::BadTopology(PlanFault::Shape {
+            key: KeyName::Cables,
+        }),
+    ),
+    (
+        "star 2\nsend h0 best 10 h1=\ntick h0 20\n# c\n\ntick h1 15\ntick h9 15\n",
+        Status::BadSchedule {
+            line: 7,
+            kind: LineKind::Node,
+        },
+    ),
+    (
+        "hosts = [\"h0\"]\nswitches = [\"s0 1\"]\ncables = [\"h0 s0\"]\n---\n\
+         send h0 best 4611686018427387902 h0=\nsend h0 best 4611686018427387902 h0=\n",
+        Status::BadSchedule {
+            line: 5,
+            kind: LineKind::Number,
+        },
+    ),
+    (
+        "star 2\nsend h0 reliable 1 h1=00\n",
+        Status::BadSchedule {
+            line: 2,
+            kind: LineKind::Verb,
+        },
+    ),
+    (
+        "star 2\ndecide\n",
+        Status::BadSchedule {
+            line: 2,
+            kind: LineKind::Verb,
+        },
+    ),
+    (
+        "star 2\ntake 5 0\n",
+        Status::BadSchedule {
+            line: 2,
+            kind: LineKind::Link,
+        },
+    ),
+    (
+        "star 2\nsend h0 best 1 h1=00 h1=01\n",
+        Status::BadSchedule {
+            line: 2,
+            kind: LineKind::Twice,
+        },
+    ),
+];
 
 #[test]
 fn refuses_an_input_with_its_first_fault(rt: HostRuntime) -> Result<(), Fail> {
-    let bad_line = |line, kind| Status::BadSchedule { line, kind };
-    let bad_plan = |fault| Status::BadTopology(PlanFault::Topo(fault));
-    let table = [
-        ("", Status::BadTopology(PlanFault::NoMark)),
-        ("hosts = [\"h0\"]\n", Status::BadTopology(PlanFault::NoMark)),
-        ("star 65\nfly\n", Status::BadTopology(PlanFault::Star)),
-        ("star 2 0\n", Status::BadTopology(PlanFault::Star)),
-        (
-            "hosts = [\"h0\", \"h1\"]\nswitches = []\ncables = [\"h0 h1\"]\n---\n",
-            bad_plan(TopoFault::Level { cable: 0 }),
-        ),
-        (
-            "hosts = [\"h0\", \"h1\"]\nswitches = [\"s0 1\", \"s1 1\"]\ncables = [\"h0 s0\", \"h1 s1\"]\n---\n",
-            bad_plan(TopoFault::Apart { a: 0, b: 1 }),
-        ),
-        (
-            "hosts = []\nswitches = []\ncables = []\n---\n",
-            bad_plan(TopoFault::NoHost),
-        ),
-        (
-            "hosts = [\"h0\"]\nswitches = [\"s0 1\"]\ncables = [\"h0 s0\", \"s0 h0\"]\n---\n",
-            bad_plan(TopoFault::DoubleCable { cable: 1 }),
-        ),
-        (
-            "hosts = [\"h0\"]\nswitches = [\"s0 1\", \"s1 2\"]\ncables = [\"h0 s0\"]\n---\n",
-            bad_plan(TopoFault::Idle { switch: 1 }),
-        ),
-        (
-            "hosts = [\"h0\"]\nswitches = []\n---\n",
-            Status::BadTopology(PlanFault::Shape {
-                key: KeyName::Cables,
-            }),
-        ),
-        (
-            "star 2\nsend h0 best 10 h1=\ntick h0 20\n# c\n\ntick h1 15\ntick h9 15\n",
-            bad_line(7, LineKind::Node),
-        ),
-        (
-            "hosts = [\"h0\"]\nswitches = [\"s0 1\"]\ncables = [\"h0 s0\"]\n---\n\
-             send h0 best 4611686018427387902 h0=\nsend h0 best 4611686018427387902 h0=\n",
-            bad_line(5, LineKind::Number),
-        ),
-        (
-            "star 2\nsend h0 reliable 1 h1=00\n",
-            bad_line(2, LineKind::Verb),
-        ),
-        ("star 2\ndecide\n", bad_line(2, LineKind::Verb)),
-        ("star 2\ntake 5 0\n", bad_line(2, LineKind::Link)),
-        (
-            "star 2\nsend h0 best 1 h1=00 h1=01\n",
-            bad_line(2, LineKind::Twice),
-        ),
-    ];
-    for (input, status) in table {
-        let ran = run_on(rt.alloc(), input, &[], 1000, &[])?;
-        assert_eq!(rt; ran.status, status, "{input}");
-        assert!(rt; ran.written.is_empty(), "{input}");
-        assert_eq!(rt; ran.records, 0, "{input}");
+    for (input, status) in &FAULTS {
+        let ran = run_on(rt.alloc(), &["replay"], input, &[], &[])?;
+        assert!(rt; ran.is(*status, "", 0), "{input}");
     }
     Ok(())
 }
+
+// The input, the reads and the writes that fail, the status, what was written, and the records of the trace.
+static OUTSIDE: [(&str, &[u32], &[u32], Status, &str, usize); 4] = [
+    ("star 2\n", &[], &[1], Status::WriteFault, "log h0 bes", 0),
+    (TWO_HOSTS, &[], &[1], Status::WriteFault, "log h0 bes", 12),
+    (TWO_HOSTS, &[0], &[], Status::ReadFault, "", 0),
+    (TWO_HOSTS, &[1], &[], Status::ReadFault, "", 0),
+];
 
 #[test]
 fn tells_faults_of_the_outside(rt: HostRuntime) -> Result<(), Fail> {
-    let cut = run_on(rt.alloc(), "star 2\n", &[], 10, &[1])?;
-    assert_eq!(rt; cut.status, Status::WriteFault);
-    assert_eq!(rt; cut.written.as_slice(), b"log h0 bes".as_slice());
-    let cut = run_on(rt.alloc(), TWO_HOSTS, &[], 10, &[1])?;
-    assert_eq!(rt; cut.status, Status::WriteFault);
-    assert_eq!(rt; cut.records, 12);
-    for failing in [0, 1] {
-        let unread = run_on(rt.alloc(), TWO_HOSTS, &[failing], 1000, &[])?;
-        assert_eq!(rt; unread.status, Status::ReadFault);
-        assert!(rt; unread.written.is_empty());
-        assert_eq!(rt; unread.records, 0);
+    for (input, reads, writes, status, text, records) in &OUTSIDE {
+        let ran = run_on(rt.alloc(), &["replay"], input, reads, writes)?;
+        assert!(rt; ran.is(*status, text, *records), "{status}");
     }
     Ok(())
 }
 
+static NO_FORMS: [&[&str]; 4] = [
+    &[],
+    &["Replay"],
+    &["replay", "--trace", "--trace"],
+    &["--help"],
+];
+
 #[test]
 fn refuses_words_that_are_no_form(rt: HostRuntime) -> Result<(), Fail> {
-    let alloc = rt.alloc();
-    let table: [&[&str]; 4] = [
-        &[],
-        &["Replay"],
-        &["replay", "--trace", "--trace"],
-        &["--help"],
-    ];
-    for texts in table {
-        let mut source = MemorySource::new(alloc, b"star 2", &[0])?;
-        let mut sink = MemorySink::new(alloc, 100, 100, &[])?;
-        let outcome = run(alloc, &words(rt.alloc(), texts)?, &mut source, &mut sink);
-        assert_eq!(rt; outcome.status, Status::Usage);
-        assert!(rt; sink.bytes().is_empty());
+    for texts in &NO_FORMS {
+        let ran = run_on(rt.alloc(), texts, "star 2", &[0], &[])?;
+        assert!(rt; ran.is(Status::Usage, "", 0));
     }
     Ok(())
 }
 
 #[test]
 fn runs_with_ample_memory(rt: HostRuntime) -> Result<(), Fail> {
-    let mut source = SteadySource::new(rt.alloc(), TWO_HOSTS.as_bytes())?;
-    let outcome = run(
-        rt.alloc(),
-        &words(rt.alloc(), &["replay"])?,
-        &mut source,
-        &mut SteadySink::new(),
-    );
-    assert_eq!(rt; outcome.status, Status::Ok);
-    assert_eq!(rt; outcome.trace.len(), 12);
+    let outcome = outcome_of(rt.alloc(), TWO_HOSTS)?;
+    assert!(rt; outcome.status == Status::Ok && outcome.trace.len() == 12);
     Ok(())
 }
 
-// How the program ends on a first line and then so many lines of one kind.
+// How the program ends on a first part and then so many lines of one kind.
 fn ends(alloc: Global, first: &str, line: &str, lines: u32) -> Result<Status, Fail> {
     let mut input = String::from_str(alloc, first)?;
     for _ in 0..lines {
         input.push_str(line)?;
     }
-    let mut source = SteadySource::new(alloc, input.as_bytes())?;
-    let outcome = run(
-        alloc,
-        &words(alloc, &["replay"])?,
-        &mut source,
-        &mut SteadySink::new(),
-    );
-    Ok(outcome.status)
+    Ok(outcome_of(alloc, input.as_str())?.status)
 }
 
-#[test]
-fn refuses_what_is_too_long(rt: HostRuntime) -> Result<(), Fail> {
-    let too_long = |what, count| Status::TooLong { what, count };
-    let table = [
-        // A tick of the down half puts a beacon for each host.
-        ("star 64\n", "tick s0.down 0\n", 15_625, Status::Ok),
-        (
-            "star 64\n",
-            "tick s0.down 0\n",
-            15_626,
-            too_long(Size::Items, 1_000_064),
-        ),
-        // The lines are counted before any of them is read.
-        (
-            "star 1\n",
-            "decide\n",
-            200_001,
-            too_long(Size::Events, 200_001),
-        ),
-        (
-            "star 1\n",
-            "\n",
-            67_108_858,
-            too_long(Size::Bytes, 67_108_865),
-        ),
-        ("star 1\n", "\n", 67_108_857, Status::Ok),
-    ];
-    for (first, line, lines, status) in table {
-        let found = ends(rt.alloc(), first, line, lines)?;
-        assert_eq!(rt; found, status, "{line} {lines}");
+// So many names of one kind, each with its end, as items of an array of TOML.
+fn push_names(plan: &mut String, kind: &str, count: u32, end: &str) -> Result<(), Fail> {
+    for at in 0..count {
+        write!(plan, "\"{kind}{at}{end}\", ")?;
     }
     Ok(())
 }
 
+fn push_cables(plan: &mut String) -> Result<(), Fail> {
+    for host in 0..64u32 {
+        let leaf = host / 2;
+        write!(plan, "\"h{host} t{leaf}\", ")?;
+    }
+    for leaf in 0..32u32 {
+        for spine in 0..13 {
+            write!(plan, "\"t{leaf} c{spine}\", ")?;
+        }
+        let spine = 13 + leaf % 19;
+        write!(plan, "\"t{leaf} c{spine}\", ")?;
+    }
+    Ok(())
+}
+
+// The largest network by name: 64 hosts at 32 leaves, and 32 spines of which 13 are joined to every leaf, with 512 cables.
+fn largest_plan(alloc: Global) -> Result<String, Fail> {
+    let mut plan = String::from_str(alloc, "hosts = [")?;
+    push_names(&mut plan, "h", 64, "")?;
+    plan.push_str("]\nswitches = [")?;
+    push_names(&mut plan, "t", 32, " 1")?;
+    push_names(&mut plan, "c", 32, " 2")?;
+    plan.push_str("]\ncables = [")?;
+    push_cables(&mut plan)?;
+    plan.push_str("]\n---\n")?;
+    Ok(plan)
+}
+
+#[test]
+fn runs_the_largest_network(rt: HostRuntime) -> Result<(), Fail> {
+    let plan = largest_plan(rt.alloc())?;
+    let found = ends(rt.alloc(), plan.as_str(), "tick c31.down 10\n", 1)?;
+    assert!(rt; found == Status::Ok, "{found}");
+    Ok(())
+}
+
+const SIXTEEN: &str =
+    "send h0 best 10 h0= h1= h2= h3= h4= h5= h6= h7= h8= h9= h10= h11= h12= h13= h14= h63=\n";
+
+// A first line, a line and how often it comes, at most as long as it may be and then longer.
+static LENGTHS: [(&str, &str, u32, Status); 7] = [
+    ("star 64\n", SIXTEEN, 1, Status::Ok),
+    // 200,000 events in more than 3 MiB.
+    ("star 1\n", "lose 0 4294967295\n", 200_000, Status::Ok),
+    // The lines are counted before any of them is read.
+    (
+        "star 1\n",
+        "decide\n",
+        200_001,
+        Status::TooLong {
+            what: Size::Events,
+            count: 200_001,
+        },
+    ),
+    // A tick of the down half puts a beacon for each host.
+    ("star 64\n", "tick s0.down 0\n", 15_625, Status::Ok),
+    (
+        "star 64\n",
+        "tick s0.down 0\n",
+        15_626,
+        Status::TooLong {
+            what: Size::Items,
+            count: 1_000_064,
+        },
+    ),
+    ("star 1\n", "\n", 67_108_857, Status::Ok),
+    (
+        "star 1\n",
+        "\n",
+        67_108_858,
+        Status::TooLong {
+            what: Size::Bytes,
+            count: 67_108_865,
+        },
+    ),
+];
+
+#[test]
+fn runs_what_is_within_the_limits_and_no_more(rt: HostRuntime) -> Result<(), Fail> {
+    for (first, line, lines, status) in &LENGTHS {
+        let found = ends(rt.alloc(), first, line, *lines)?;
+        assert!(rt; found == *status, "{found}");
+    }
+    Ok(())
+}
+
+static LINES: [(Status, u8, &str); 9] = [
+    (
+        Status::Usage,
+        2,
+        "onepipe: usage: replay [--trace] | judge | gen SEED HOSTS EVENTS [--run] | live TURNS [--step N]",
+    ),
+    (Status::ReadFault, 3, "onepipe: read fault"),
+    (Status::WriteFault, 4, "onepipe: write fault"),
+    (
+        Status::BadTopology(PlanFault::Topo(TopoFault::Apart { a: 0, b: 1 })),
+        5,
+        "onepipe: topology: apart 0 1",
+    ),
+    (
+        Status::BadSchedule {
+            line: 7,
+            kind: LineKind::Node,
+        },
+        6,
+        "onepipe: line 7: node",
+    ),
+    (
+        Status::TooLong {
+            what: Size::Bytes,
+            count: 67_108_865,
+        },
+        7,
+        "onepipe: too long: bytes 67108865",
+    ),
+    (
+        Status::TooLong {
+            what: Size::Events,
+            count: 200_001,
+        },
+        7,
+        "onepipe: too long: events 200001",
+    ),
+    (
+        Status::TooLong {
+            what: Size::Items,
+            count: 1_000_064,
+        },
+        7,
+        "onepipe: too long: items 1000064",
+    ),
+    (Status::NoMemory, 8, "onepipe: no memory"),
+];
+
+fn tells(alloc: Global, status: &Status, number: u8, line: &str) -> Result<bool, Fail> {
+    let shown = format!(in alloc; "{status}")?;
+    Ok(exit_number(status) == number && shown.as_str() == line)
+}
+
 #[test]
 fn tells_each_status_in_a_line(rt: HostRuntime) -> Result<(), Fail> {
-    let table = [
-        (
-            Status::Usage,
-            2,
-            "onepipe: usage: replay [--trace] | judge | gen SEED HOSTS EVENTS [--run] | live TURNS [--step N]",
-        ),
-        (Status::ReadFault, 3, "onepipe: read fault"),
-        (Status::WriteFault, 4, "onepipe: write fault"),
-        (
-            Status::BadTopology(PlanFault::Topo(TopoFault::Apart { a: 0, b: 1 })),
-            5,
-            "onepipe: topology: apart 0 1",
-        ),
-        (
-            Status::BadSchedule {
-                line: 7,
-                kind: LineKind::Node,
-            },
-            6,
-            "onepipe: line 7: node",
-        ),
-        (
-            Status::TooLong {
-                what: Size::Bytes,
-                count: 67_108_865,
-            },
-            7,
-            "onepipe: too long: bytes 67108865",
-        ),
-        (
-            Status::TooLong {
-                what: Size::Events,
-                count: 200_001,
-            },
-            7,
-            "onepipe: too long: events 200001",
-        ),
-        (
-            Status::TooLong {
-                what: Size::Items,
-                count: 1_000_064,
-            },
-            7,
-            "onepipe: too long: items 1000064",
-        ),
-        (Status::NoMemory, 8, "onepipe: no memory"),
-    ];
-    for (status, number, line) in table {
-        assert_eq!(rt; exit_number(&status), number);
-        assert_eq!(rt; format!(in rt.alloc(); "{status}")?.as_str(), line);
+    for (status, number, line) in &LINES {
+        assert!(rt; tells(rt.alloc(), status, *number, line)?, "{line}");
     }
     Ok(())
 }

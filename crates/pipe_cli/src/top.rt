@@ -1,9 +1,10 @@
 // The top call.
-ghost use Rattle.std.specs.Prelude.{◌≡◌, ◌↔◌, [], true, false, map, string_bytes};
+ghost use Rattle.std.specs.Prelude.{◌≡◌, ◌≢◌, ◌↔◌, [], true, false, map, string_bytes};
 ghost use Rattle.pipe_base.specs.Outside.{Rose};
 ghost use Rattle.pipe_cli.specs.Answer.{IsOfInput, IsCaused, IsWritten, DoesReplay, IsComplete};
 ghost use Rattle.pipe_cli.specs.Form.{IsReplayForm};
 ghost use Rattle.pipe_cli.specs.Status.{has_text};
+ghost use Rattle.pipe_cli.specs.Write.{EndsAtFault};
 
 use crate::read::{ReadStop, read_all};
 use crate::replay::{Replayed, replay};
@@ -35,6 +36,7 @@ pub fn run<S: Source, K: Sink>(
     ensures input { IsOfInput (S.left source.old) (S.left source.new) result.status }
     ensures cause { IsCaused result.status (S.faults source.old) (S.faults source.new) (K.faults sink.old) (K.faults sink.new) }
     ensures replay { has_text result.status ≡ true → DoesReplay result.status (S.left source.old) (S.left source.new) (K.written sink.old) (K.written sink.new) result.trace }
+    ensures last { result.status ≡ Status.WriteFault → EndsAtFault K.written K.faults sink.old sink.new }
     ensures silent { has_text result.status ≡ false → (sink.new ≡ sink.old) × (result.trace ≡ []) }
     ensures complete { ¬ Rose (S.faults source.old) (S.faults source.new) → ¬ Rose (K.faults sink.old) (K.faults sink.new) → IsComplete (map string_bytes words.now) (S.left source.old) result.status }
 {
@@ -56,7 +58,8 @@ fn write_out<K: Sink>(sink: &mut K, done: Replayed) -> Outcome
     ensures trace { result.trace ≡ done.trace }
     ensures written { IsWritten result.status (K.written sink.old) (K.written sink.new) done.text }
     ensures failed { result.status ≡ Status.WriteFault → Rose (K.faults sink.old) (K.faults sink.new) }
-    ensures steady { result.status ≡ Status.Ok → K.faults sink.new ≡ K.faults sink.old }
+    ensures last { result.status ≡ Status.WriteFault → EndsAtFault K.written K.faults sink.old sink.new }
+    ensures steady { result.status ≢ Status.WriteFault → K.faults sink.new ≡ K.faults sink.old }
 {
     let Replayed { trace, text } = done;
     match write_all(sink, text.as_slice()) {

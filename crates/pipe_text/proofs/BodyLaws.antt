@@ -2,6 +2,7 @@
 use Rattle.std.proofs.Common.{◌≡◌, ℕ, ◌<◌, List, [], ◌∷◌, ◌++◌, length, Option, None, Some, refl, ap, sym, subst, ◌∙◌, arith, append_assoc, nat_le, false, if◌then◌else◌}
 use Rattle.std.proofs.lemmas.Bool.Decides.{nat_tests}
 use Rattle.std.specs.Option.{option_map}
+use Rattle.pipe_base.specs.Limits.{most_body}
 use Rattle.pipe_text.specs.Body.{bytes_of, byte_onto, within_body, body_of}
 
 -- a byte moves from the front of the rest to the end of what is read
@@ -23,8 +24,8 @@ read_more bytes now byte high tail after word rest so_far is first push =
     ∙ so_far)
 
 -- a body is not longer than it may be
-pub too_long : (word bytes : List ℕ) → Some bytes ≡ bytes_of word → 1024 < length bytes → None ≡ body_of word
+pub too_long : (word bytes : List ℕ) → Some bytes ≡ bytes_of word → most_body < length bytes → None ≡ body_of word
 too_long word bytes is long =
-    let no : nat_le (length bytes) 1024 ≡ false = grind (arith, nat_tests) in
+    let no : nat_le (length bytes) most_body ≡ false = grind (arith, nat_tests) in
     let cut : within_body (Some bytes) ≡ None = ap (λ t. if t then Some bytes else None) no in
     sym cut ∙ ap within_body is

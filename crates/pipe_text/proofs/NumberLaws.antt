@@ -1,12 +1,13 @@
 -- Lemmas on numbers as words.
-use Rattle.std.proofs.Common.{lit<, lit≤, ◌≡◌, ◌==◌, ◌&&◌, ℕ, ◌+◌, ◌-◌, ◌*◌, ◌<◌, ◌≤◌, ◌^◌, Bool, true, false, List, [], ◌∷◌, length, take, get_or, arith, sym, nat_lt, refl, subst, if◌then◌else◌}
+use Rattle.std.proofs.Common.{lit<, lit≤, ◌≡◌, ◌==◌, ◌&&◌, ℕ, ◌+◌, ◌-◌, ◌*◌, ◌<◌, ◌≤◌, ◌^◌, Bool, true, false, List, [], ◌∷◌, length, take, get_or, arith, sym, nat_lt, refl, subst, nat_le, if◌then◌else◌, Some, None}
 use Rattle.std.proofs.Math.Nat.{pow-le-pow_right}
 use Rattle.std.specs.Char.{is_ascii_digit, digit_value}
 use Rattle.std.specs.List.{list_all}
+use Rattle.std.specs.Option.{IfSome}
 use Rattle.std.specs.Str.Parse.{AllDigits, digits_value}
 use Rattle.std.proofs.lemmas.Int.Digits.{digits_value-lt, digits_value_more}
 use Rattle.std.proofs.lemmas.Str.Parse.{digit_at, digits_value-take-le}
-use Rattle.pipe_text.specs.Number.{is_number}
+use Rattle.pipe_text.specs.Number.{is_number, number_of}
 use Rattle.std.proofs.lemmas.Bool.Decides.{nat_tests}
 
 pub both : (s t : Bool) → (s && t) ≡ true → (s ≡ true) × (t ≡ true)
@@ -67,3 +68,13 @@ pub value_more : (word : List ℕ) (i value digit : ℕ) → is_number word ≡ 
 value_more word i value digit is within so_far next =
     let known = number_digit word i is within in
     omega (arith, known.0, so_far, next, digits_value_more 10 word i within)
+
+-- a number that is read is within its bound
+pub number_within : (most : ℕ) (word : List ℕ) → IfSome (number_of most word) (λ n. n ≤ most)
+number_within most word = pick (is_number word && nat_le (digits_value 10 word) most) refl
+  where
+    pick : (t : Bool) → (is_number word && nat_le (digits_value 10 word) most) ≡ t → IfSome (if t then Some (digits_value 10 word) else None) (λ n. n ≤ most)
+    pick true is =
+        let below = (both (is_number word) (nat_le (digits_value 10 word) most) is).1 in
+        grind (arith, nat_tests, below)
+    pick false is = tt

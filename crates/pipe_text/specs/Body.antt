@@ -1,5 +1,6 @@
 -- Bodies as lower-case hexadecimal digits, two a byte.
 use Rattle.std.specs.Prelude.{ℕ, ◌+◌, ◌-◌, ◌*◌, ◌/◌, ◌%◌, ◌&&◌, nat_le, nat_lt, if◌then◌else◌, List, [], ◌∷◌, length, Option, Some, None}
+use Rattle.pipe_base.specs.Limits.{most_body}
 
 -- the value of a digit: `0` to `9` and `a` to `f`
 abbrev pub hex_value : ℕ → Option ℕ
@@ -10,15 +11,13 @@ hex_value digit =
 
 -- the byte of two digits
 abbrev pub byte_of : Option ℕ → Option ℕ → Option ℕ
-byte_of None low = None
-byte_of (Some high) None = None
 byte_of (Some high) (Some low) = Some (high * 16 + low)
+byte_of _ _ = None
 
 -- a byte before others, where all are there
 abbrev pub byte_onto : Option ℕ → Option (List ℕ) → Option (List ℕ)
-byte_onto None bytes = None
-byte_onto (Some byte) None = None
 byte_onto (Some byte) (Some bytes) = Some (byte ∷ bytes)
+byte_onto _ _ = None
 
 -- the bytes that pairs of digits spell
 abbrev pub bytes_of : List ℕ → Option (List ℕ)
@@ -29,7 +28,7 @@ bytes_of (high ∷ low ∷ rest) = byte_onto (byte_of (hex_value high) (hex_valu
 -- at most so many bytes as a body has
 abbrev pub within_body : Option (List ℕ) → Option (List ℕ)
 within_body None = None
-within_body (Some bytes) = if nat_le (length bytes) 1024 then Some bytes else None
+within_body (Some bytes) = if nat_le (length bytes) most_body then Some bytes else None
 
 -- the body that a word spells
 abbrev pub body_of : List ℕ → Option (List ℕ)

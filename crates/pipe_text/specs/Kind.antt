@@ -3,6 +3,7 @@ use Rattle.std.specs.Prelude.{ℕ, List, codes}
 use Rattle.pipe_text.specs.declared.kind.LineKind.{LineKind}
 use Rattle.pipe_text.specs.declared.kind.LineKind.TheVariants.{Verb, Count, Node, Link, Number, Service, Receivers, Body, Twice, Order}
 
+-- the word of a fault of a line
 abbrev pub kind_word : LineKind → List ℕ
 kind_word Verb = codes "verb"
 kind_word Count = codes "count"

@@ -4,6 +4,7 @@ use Rattle.pipe_base.specs.declared.message.Service.{Service}
 use Rattle.pipe_base.specs.declared.message.Service.TheVariants.{BestEffort, Reliable}
 use Rattle.pipe_text.specs.Body.{hex_text}
 
+-- the word of a service
 abbrev pub service_word : Service → List ℕ
 service_word BestEffort = codes "best"
 service_word Reliable = codes "reliable"

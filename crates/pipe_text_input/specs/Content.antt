@@ -1,6 +1,7 @@
 -- What an input says: a network with names and what happens in it, or the first fault of the input.
 use Rattle.std.specs.Prelude.{ℕ, nat_lt, if◌then◌else◌, List, Option, Some, None, Result, Ok, Err}
 use Rattle.std.specs.Str.Lines.{lines}
+use Rattle.pipe_base.specs.Limits.{most_events}
 use Rattle.pipe_model.specs.declared.event.Event.{Event}
 use Rattle.pipe_text.specs.declared.kind.LineKind.{LineKind}
 use Rattle.pipe_topo.specs.declared.plan.Plan.{Plan}
@@ -14,6 +15,7 @@ use Rattle.pipe_text_schedule.specs.Schedule.{schedule_of}
 use Rattle.pipe_text_input.specs.declared.input.InputFault.{InputFault}
 use Rattle.pipe_text_input.specs.declared.input.InputFault.TheVariants as fault
 
+-- a network with names, and what happens in it
 pub record Content : Type 0 where
   -- of the hosts and then of the switches
   pub names : List (List ℕ)
@@ -35,7 +37,7 @@ planned division (Ok described) =
 abbrev pub divided : Option Division → Result Content InputFault
 divided None = Err (fault.Plan NoMark)
 divided (Some division) =
-    if nat_lt 200000 (lines_read division.rest) then Err (fault.TooManyEvents (lines_read division.rest))
+    if nat_lt most_events (lines_read division.rest) then Err (fault.TooManyEvents (lines_read division.rest))
     else planned division (described_by division)
 
 -- what the bytes of an input say

@@ -2,9 +2,11 @@
 #![tactic(auto)]
 
 mod input;
+mod laws;
 mod read;
 
 pub use input::{Input, InputFault};
+pub use laws::inputs_have_networks;
 pub use read::read_input;
 
 #[cfg(test)]

@@ -1,5 +1,6 @@
 // The bytes of an input as a network and its events.
 ghost use Rattle.std.specs.Prelude.{◌≡◌, ◌≢◌, ◌+◌, ◌≤◌, length, IfOk, IfErr, Some, Err};
+ghost use Rattle.pipe_base.specs.Limits.{most_bytes};
 ghost use Rattle.pipe_text_plan.specs.Described.{described_by};
 ghost use Rattle.pipe_text_plan.specs.Input.{IsInput};
 ghost use Rattle.pipe_text_plan.specs.Views.{division_view};
@@ -16,7 +17,7 @@ const EVENT_LIMIT: u32 = 200000;
 
 /// Reads an input: a topology part and a schedule.
 pub fn read_input(alloc: Global, bytes: &[u8]) -> Result<Input, InputFault>
-    requires { length bytes.now ≤ 67108864 }
+    requires { length bytes.now ≤ most_bytes }
     ensures ok { IfOk result (IsRead (content_of bytes.now)) }
     ensures fault { IfErr result (λ fault. fault ≢ InputFault.NoMemory → content_of bytes.now ≡ Err fault) }
 {
@@ -27,7 +28,7 @@ pub fn read_input(alloc: Global, bytes: &[u8]) -> Result<Input, InputFault>
 }
 
 fn read_parts(alloc: Global, parts: &Parts<'_>) -> Result<Input, InputFault>
-    requires { parts.now.line + length parts.now.rest.now ≤ 67108866 }
+    requires { parts.now.line + length parts.now.rest.now ≤ most_bytes + 2 }
     ensures ok { IfOk result (IsRead (divided (Some (division_view parts.now)))) }
     ensures fault { IfErr result (λ fault. fault ≢ InputFault.NoMemory → divided (Some (division_view parts.now)) ≡ Err fault) }
 {
@@ -44,7 +45,7 @@ fn read_parts(alloc: Global, parts: &Parts<'_>) -> Result<Input, InputFault>
 
 // Reads the schedule of a network that was read.
 fn read_events(alloc: Global, parts: &Parts<'_>, input: PlanInput) -> Result<Input, InputFault>
-    requires part { parts.now.line + length parts.now.rest.now ≤ 67108866 }
+    requires part { parts.now.line + length parts.now.rest.now ≤ most_bytes + 2 }
     requires input { IsInput (described_by (division_view parts.now)) input }
     ensures ok { IfOk result (IsRead (planned (division_view parts.now) (described_by (division_view parts.now)))) }
     ensures fault { IfErr result (λ fault. fault ≢ InputFault.NoMemory → planned (division_view parts.now) (described_by (division_view parts.now)) ≡ Err fault) }

@@ -15,6 +15,7 @@ use Rattle.pipe_text_log.specs.declared.collect.Log.{Log}
 abbrev pub graph_with : List Link → Graph
 graph_with links = record { hosts = 0; nodes = 0; links = links; patience = 0 }
 
+-- a node acts, and it is this one
 abbrev pub is_node : Option ℕ → ℕ → Bool
 is_node None n = false
 is_node (Some m) n = m == n

@@ -1,6 +1,7 @@
 -- Lemmas on what a document describes.
 use Rattle.std.proofs.Common.{◌≡◌, ℕ, zero, suc, ◌+◌, ◌-◌, ◌<◌, ◌≤◌, Bool, true, false, cond, nat_lt, if◌then◌else◌, Bor, option_and_then, List, [], ◌∷◌, length, map, get_or, position, Option, None, Some, Result, Ok, Err, option_map, refl, ap, sym, subst, ◌∙◌, arith, length-append}
 use Rattle.std.specs.List.{All}
+use Rattle.std.specs.Option.{option_zip}
 use Rattle.std.specs.Str.{bytes_eq, is_utf8, IsUtf8}
 use Rattle.std.proofs.lemmas.Bool.Decides.{nat_tests}
 use Rattle.std.proofs.lemmas.List.{length-map}
@@ -14,7 +15,7 @@ use Rattle.pipe_topo.specs.declared.plan.Plan.{Plan}
 use Rattle.pipe_topo.specs.Plan.{IsEnd, HasEnds}
 use Rattle.pipe_text_plan.specs.declared.fault.PlanFault.{PlanFault}
 use Rattle.pipe_text_plan.specs.declared.fault.PlanFault.TheVariants.{CableText, SwitchText}
-use Rattle.pipe_text_plan.specs.Cable.{end_at, end_of, both_ends, ends_of, cable_of, cables_of}
+use Rattle.pipe_text_plan.specs.Cable.{end_at, end_of, ends_of, cable_of, cables_of}
 use Rattle.pipe_text_plan.specs.Described.{Document, built, with_cables, with_names, with_switches, all_names, crowded, uncrowded, described}
 use Rattle.pipe_text_plan.specs.Keys.{document_of}
 use Rattle.pipe_text_plan.specs.Numbering.{numbered, numbered_unless, first_wrong}
@@ -141,7 +142,7 @@ ends_right : (hosts count : ℕ) (names : List (List ℕ)) (words : Option (List
 ends_right hosts count names None cable size is = absurd cc
 ends_right hosts count names (Some words) cable size is = both (end_of hosts names words.0) (end_of hosts names words.1) refl refl is
   where
-    both : (first second : Option CableEnd) → end_of hosts names words.0 ≡ first → end_of hosts names words.1 ≡ second → both_ends first second ≡ Some cable
+    both : (first second : Option CableEnd) → end_of hosts names words.0 ≡ first → end_of hosts names words.1 ≡ second → option_zip first second ≡ Some cable
         → IsEnd hosts count cable.0 × IsEnd hosts count cable.1
     both None second a b is = absurd cc
     both (Some first) None a b is = absurd cc

@@ -6,3 +6,4 @@ pub mod KeyLaws
 pub mod StarLaws
 pub mod NameLaws
 pub mod DescribeLaws
+pub mod PlanLaws

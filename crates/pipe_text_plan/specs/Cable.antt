@@ -1,5 +1,6 @@
 -- The text of a cable.
-use Rattle.std.specs.Prelude.{ℕ, ◌-◌, nat_lt, if◌then◌else◌, List, position, Option, None, Some, option_map, option_and_then, Result}
+use Rattle.std.specs.Prelude.{ℕ, ◌-◌, nat_lt, if◌then◌else◌, List, position, Option, option_map, option_and_then, Result}
+use Rattle.std.specs.Option.{option_zip}
 use Rattle.std.specs.Str.{bytes_eq}
 use Rattle.pipe_topo.specs.declared.plan.CableEnd.{CableEnd}
 use Rattle.pipe_topo.specs.declared.plan.CableEnd.TheVariants.{Host, Switch}
@@ -12,16 +13,13 @@ use Rattle.pipe_text_plan.specs.Texts.{around_space}
 abbrev pub end_at : ℕ → ℕ → CableEnd
 end_at hosts number = if nat_lt number hosts then Host number else Switch (number - hosts)
 
+-- the host or the switch of a name
 abbrev pub end_of : ℕ → List (List ℕ) → List ℕ → Option CableEnd
 end_of hosts names name = option_map (end_at hosts) (position (bytes_eq name) names)
 
-abbrev pub both_ends : Option CableEnd → Option CableEnd → Option (CableEnd × CableEnd)
-both_ends None second = None
-both_ends (Some first) None = None
-both_ends (Some first) (Some second) = Some (first, second)
-
+-- the ends that two words name
 abbrev pub ends_of : ℕ → List (List ℕ) → List ℕ × List ℕ → Option (CableEnd × CableEnd)
-ends_of hosts names words = both_ends (end_of hosts names words.0) (end_of hosts names words.1)
+ends_of hosts names words = option_zip (end_of hosts names words.0) (end_of hosts names words.1)
 
 -- two of the names, with one space between
 abbrev pub cable_of : ℕ → List (List ℕ) → List ℕ → Option (CableEnd × CableEnd)

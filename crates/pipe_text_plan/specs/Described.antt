@@ -1,5 +1,6 @@
 -- What a topology part describes, or its first fault.
 use Rattle.std.specs.Prelude.{ℕ, min, nat_lt, ◌≤◌, if◌then◌else◌, List, ◌++◌, length, map, codes, Option, None, Some, Result, Ok, Err}
+use Rattle.std.specs.Option.{option_or}
 use Rattle.toml.specs.Data.{Members}
 use Rattle.pipe_text.specs.Words.{words_of}
 use Rattle.pipe_topo.specs.declared.fault.TopoFault.{TopoFault}
@@ -9,7 +10,6 @@ use Rattle.pipe_topo.specs.declared.fault.What.TheVariants as what
 use Rattle.pipe_topo.specs.declared.plan.CableEnd.{CableEnd}
 use Rattle.pipe_topo.specs.declared.plan.Plan.{Plan}
 use Rattle.pipe_topo.specs.Fault.{fault_of}
-use Rattle.pipe_topo.specs.First.{first_of}
 use Rattle.pipe_topo.specs.Star.{star_plan}
 use Rattle.pipe_text_plan.specs.declared.fault.KeyName.TheVariants as key
 use Rattle.pipe_text_plan.specs.declared.fault.PlanFault.{PlanFault}
@@ -38,6 +38,7 @@ abbrev pub built_unless : List (List ℕ) → Plan → Option TopoFault → Resu
 built_unless names plan (Some fault) = Err (Topo fault)
 built_unless names plan None = Ok (record { names = names; plan = plan })
 
+-- a plan with its names, or its first fault
 abbrev pub built : List (List ℕ) → Plan → Result Described PlanFault
 built names plan = built_unless names plan (fault_of plan)
 
@@ -72,8 +73,8 @@ crowd kind count = if nat_lt 32767 count then Some (TooMany kind (min count 4294
 -- the first array of more than 32,767 texts
 abbrev pub crowded : Document → Option TopoFault
 crowded document =
-    first_of (crowd what.Hosts (length document.hosts))
-    (first_of (crowd what.Switches (length document.switches))
+    option_or (crowd what.Hosts (length document.hosts))
+    (option_or (crowd what.Switches (length document.switches))
     (crowd what.Cables (length document.cables)))
 
 -- no array has more
@@ -82,10 +83,12 @@ pub record IsCountable (document : Document) : Type 0 where
   pub few_switches : length document.switches ≤ 32767
   pub few_cables : length document.cables ≤ 32767
 
+-- No array has too many.
 abbrev pub uncrowded : Document → Option TopoFault → Result Described PlanFault
 uncrowded document (Some fault) = Err (Topo fault)
 uncrowded document None = with_switches document (switches_of document.switches)
 
+-- the plan of a document, or its first fault
 abbrev pub described : Document → Result Described PlanFault
 described document = uncrowded document (crowded document)
 
@@ -104,10 +107,12 @@ keyed members =
     if has_extra members then Err Extra
     else shaped (texts_at (codes "hosts") members) (texts_at (codes "switches") members) (texts_at (codes "cables") members) (patience_at members)
 
+-- The document describes a plan.
 abbrev pub then_described : Result Document PlanFault → Result Described PlanFault
 then_described (Err fault) = Err fault
 then_described (Ok document) = described document
 
+-- The text is TOML.
 abbrev pub toml_described : Option Members → Result Described PlanFault
 toml_described None = Err NotToml
 toml_described (Some members) = then_described (keyed members)

@@ -6,6 +6,7 @@ use Rattle.std.specs.Str.Lines.{lines}
 use Rattle.pipe_text.specs.Words.{words_of}
 use Rattle.pipe_text_plan.specs.Pieces.{pieces}
 
+-- the two parts of an input
 pub record Division : Type 0 where
   -- the topology is the line of a star
   pub star : Bool
@@ -20,6 +21,7 @@ pub record Division : Type 0 where
 abbrev pub is_mark : List ℕ → Bool
 is_mark piece = bytes_eq piece (codes "---\n") || (bytes_eq piece (codes "---\r\n") || bytes_eq piece (codes "---"))
 
+-- the parts before and after a mark
 abbrev pub marked_at : List (List ℕ) → Option ℕ → Option Division
 marked_at all None = None
 marked_at all (Some mark) = Some (record { star = false; topology = concat (take mark all); rest = concat (drop (mark + 1) all); line = mark + 2 })

@@ -16,6 +16,7 @@ is_wrong names at =
 abbrev pub first_wrong : List (List ℕ) → Option ℕ
 first_wrong names = first_below (is_wrong names) (length names)
 
+-- the names, where none is wrong
 abbrev pub numbered_unless : List (List ℕ) → Option ℕ → Result (List (List ℕ)) PlanFault
 numbered_unless names (Some at) = Err (Name at)
 numbered_unless names None = Ok names

@@ -2,6 +2,7 @@
 use Rattle.std.specs.Prelude.{ℕ, suc, List, [], ◌∷◌, Option, None, Some, Result, Ok, Err}
 use Rattle.pipe_text_plan.specs.declared.fault.PlanFault.{PlanFault}
 
+-- an item before those of the rest, or the place of the first that is not read
 abbrev pub read_onto : {B : Type 0} → Option B → Result (List B) ℕ → Result (List B) ℕ
 read_onto None rest = Err 0
 read_onto (Some first) (Err at) = Err (suc at)

@@ -1,21 +1,19 @@
 -- The line of a star.
 use Rattle.std.specs.Prelude.{ℕ, ◌==◌, ◌||◌, if◌then◌else◌, List, [], ◌∷◌, ◌++◌, map, codes, decimal, Option, None, Some}
 use Rattle.std.specs.List.{range_with_len}
+use Rattle.pipe_base.specs.Limits.{most_patience}
 use Rattle.pipe_text.specs.Number.{number_of}
 
 -- a number of hosts and a patience, neither of them 0
 abbrev pub star_with : Option ℕ → Option ℕ → Option (ℕ × ℕ)
-star_with None patience = None
-star_with (Some hosts) None = None
 star_with (Some hosts) (Some patience) = if (hosts == 0) || (patience == 0) then None else Some (hosts, patience)
+star_with _ _ = None
 
 -- `star N` or `star N P`: the hosts and the patience
 abbrev pub star_of : List (List ℕ) → Option (ℕ × ℕ)
-star_of [] = None
-star_of (star ∷ []) = None
 star_of (star ∷ hosts ∷ []) = star_with (number_of 64 hosts) (Some 1000)
-star_of (star ∷ hosts ∷ patience ∷ []) = star_with (number_of 64 hosts) (number_of 281474976710654 patience)
-star_of (star ∷ hosts ∷ patience ∷ another ∷ more) = None
+star_of (star ∷ hosts ∷ patience ∷ []) = star_with (number_of 64 hosts) (number_of most_patience patience)
+star_of _ = None
 
 -- `h0`, `h1` and so on
 abbrev pub host_name : ℕ → List ℕ

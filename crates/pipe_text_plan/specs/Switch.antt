@@ -11,13 +11,16 @@ use Rattle.pipe_text_plan.specs.Texts.{around_space}
 abbrev pub level_in : ℕ → Option ℕ
 level_in n = if n == 0 then None else Some n
 
+-- the level that a word says
 abbrev pub level_of : List ℕ → Option ℕ
 level_of word = option_and_then level_in (number_of 15 word)
 
+-- a name with its level, where it has one
 abbrev pub with_level : List ℕ → Option ℕ → Option (List ℕ × ℕ)
 with_level name None = None
 with_level name (Some level) = Some (name, level)
 
+-- a switch of two words
 abbrev pub named_level : List ℕ × List ℕ → Option (List ℕ × ℕ)
 named_level words = if is_name words.0 then with_level words.0 (level_of words.1) else None
 

@@ -5,15 +5,15 @@ use Rattle.toml.specs.Data.{Items, no_items, item, as_str}
 
 -- a text before others, where all are there
 abbrev pub text_onto : Option (List ℕ) → Option (List (List ℕ)) → Option (List (List ℕ))
-text_onto None texts = None
-text_onto (Some text) None = None
 text_onto (Some text) (Some texts) = Some (text ∷ texts)
+text_onto _ _ = None
 
 -- the items, where all are texts
 abbrev pub item_texts : Items → Option (List (List ℕ))
 item_texts no_items = Some []
 item_texts (item value rest) = text_onto (as_str value) (item_texts rest)
 
+-- the byte of a space
 abbrev pub is_space : ℕ → Bool
 is_space byte = byte == 32
 

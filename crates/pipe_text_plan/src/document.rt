@@ -11,11 +11,9 @@ ghost use Rattle.pipe_text_plan.specs.Views.{document_view};
 
 use crate::array::texts_at;
 use crate::fault::{KeyName, PlanError, PlanFault};
+use crate::patience::{PATIENCE, PATIENCE_LIMIT};
 use std::alloc::Global;
 use toml::{Table, Value};
-
-// The patience where none is given.
-const PATIENCE: u64 = 1000;
 
 // The texts of the four keys.
 #[derive(Drop)]
@@ -90,7 +88,7 @@ fn patience_in(value: &Value) -> Option<u64>
     ensures { result ≡ option_and_then patience_in (as_integer (view value.now)) }
 {
     match value.as_integer() {
-        Some(number) if 1 <= number && number <= 281474976710654 => Some(number as u64),
+        Some(number) if 1 <= number && number <= PATIENCE_LIMIT as i64 => Some(number as u64),
         _ => None,
     }
 }

@@ -8,8 +8,10 @@ mod count;
 mod division;
 mod document;
 mod fault;
+mod laws;
 mod name;
 mod number;
+mod patience;
 mod piece;
 mod read;
 mod space;
@@ -20,6 +22,7 @@ mod word;
 pub use count::lines_read;
 pub use division::{Parts, parts_of};
 pub use fault::{KeyName, PlanError, PlanFault};
+pub use laws::described_plans_have_no_fault;
 pub use name::is_name;
 pub use read::{PlanInput, read_plan};
 

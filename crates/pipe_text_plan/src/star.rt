@@ -2,13 +2,11 @@
 ghost use Rattle.std.specs.Prelude.{◌≡◌, ◌≤◌, map, IfOk, IfSome};
 ghost use Rattle.pipe_text_plan.specs.Star.{star_with, star_of, star_names};
 
+use crate::patience::{PATIENCE, PATIENCE_LIMIT};
 use pipe_base::NoMemory;
 use pipe_text::read_number;
 use pipe_topo::Names;
 use std::alloc::Global;
-
-// The patience where none is given.
-const PATIENCE: u64 = 1000;
 
 // The number of hosts and the patience.
 pub fn star_of(words: &[&[u8]]) -> Option<(u16, u64)>
@@ -19,7 +17,7 @@ pub fn star_of(words: &[&[u8]]) -> Option<(u16, u64)>
         [_, hosts] => star_with(read_number(hosts, 64), Some(PATIENCE)),
         [_, hosts, patience] => star_with(
             read_number(hosts, 64),
-            read_number(patience, 281474976710654),
+            read_number(patience, PATIENCE_LIMIT),
         ),
         _ => None,
     }

@@ -1,16 +1,12 @@
 // What no clause says: that the calls succeed where there is memory, and the faults as the formats name them. The helpers
 // promise nothing, so that a test has few facts to carry.
-ghost use Rattle.std.specs.Prelude.{◌<◌, ◌^◌, length};
 
 use crate::{PlanError, PlanFault, PlanInput, is_name, lines_read, parts_of, read_plan};
-use pipe_topo::Names;
 use std::alloc::{AllocError, Global};
 use std::process::Abort;
-use std::test::Fail;
 
-fn read(alloc: Global, input: &[u8]) -> Result<PlanInput, PlanError>
-    requires { length input.now < 2 ^ 31 }
-{
+fn read(rt: &impl Abort, alloc: Global, input: &[u8]) -> Result<PlanInput, PlanError> {
+    assert!(rt; input.len() < 1000000);
     match parts_of(input) {
         Some(parts) => read_plan(alloc, &parts),
         None => Err(PlanError::Plan(PlanFault::NoMark)),
@@ -21,20 +17,23 @@ fn fault_words(alloc: Global, fault: &PlanFault) -> Result<String, AllocError> {
     format!(in alloc; "{fault}")
 }
 
-// The words of the first fault, or `ok`.
-fn answer(rt: &impl Abort, alloc: Global, input: &[u8]) -> Result<String, AllocError> {
-    assert!(rt; input.len() < 1000000);
-    match read(alloc, input).err() {
-        None => String::from_str(alloc, "ok"),
-        Some(PlanError::Plan(fault)) => fault_words(alloc, &fault),
-        Some(PlanError::NoMemory) => String::from_str(alloc, "want of memory"),
+// The words of the first fault are these, or there is none and these are `ok`.
+fn is_answer(
+    rt: &impl Abort,
+    alloc: Global,
+    input: &[u8],
+    words: &str,
+) -> Result<bool, AllocError> {
+    match read(rt, alloc, input).err() {
+        None => Ok(words == "ok"),
+        Some(PlanError::Plan(fault)) => Ok(fault_words(alloc, &fault)?.as_str() == words),
+        Some(PlanError::NoMemory) => Ok(false),
     }
 }
 
 fn have_answers(rt: &impl Abort, alloc: Global, cases: &[(&str, &str)]) -> Result<(), AllocError> {
     for (input, words) in cases {
-        let found = answer(rt, alloc, input.as_bytes())?;
-        assert!(rt; found.as_str() == *words, "{input}: {found}");
+        assert!(rt; is_answer(rt, alloc, input.as_bytes(), words)?);
     }
     Ok(())
 }
@@ -55,8 +54,8 @@ static STARS: [(&str, &str); 12] = [
 ];
 
 #[test]
-fn stars(rt: HostRuntime) -> Result<(), Fail> {
-    Ok(have_answers(&rt, rt.alloc(), &STARS)?)
+fn stars(rt: HostRuntime) -> Result<(), AllocError> {
+    have_answers(&rt, rt.alloc(), &STARS)
 }
 
 static FIRST_FAULTS: [(&str, &str); 31] = [
@@ -154,15 +153,9 @@ static FIRST_FAULTS: [(&str, &str); 31] = [
 ];
 
 #[test]
-fn first_faults(rt: HostRuntime) -> Result<(), Fail> {
-    Ok(have_answers(&rt, rt.alloc(), &FIRST_FAULTS)?)
-}
-
-#[test]
-fn text_that_is_not_utf8(rt: HostRuntime) -> Result<(), Fail> {
-    let found = answer(&rt, rt.alloc(), b"\xff\n---\n")?;
-    assert!(rt; found.as_str() == "not toml");
-    Ok(())
+fn first_faults(rt: HostRuntime) -> Result<(), AllocError> {
+    assert!(rt; is_answer(&rt, rt.alloc(), b"\xff\n---\n", "not toml")?);
+    have_answers(&rt, rt.alloc(), &FIRST_FAULTS)
 }
 
 // A plan with so many items of one text in an array.
@@ -179,79 +172,88 @@ fn crowded(alloc: Global, hosts: u32, switches: u32) -> Result<String, AllocErro
     Ok(text)
 }
 
+static CROWDS: [(u32, u32, &str); 3] = [
+    (65, 0, "too many hosts 65"),
+    (0, 32767, "switch 0"),
+    (0, 32768, "too many switches 32768"),
+];
+
 #[test]
-fn too_many(rt: HostRuntime) -> Result<(), Fail> {
-    for (hosts, switches, words) in [
-        (65, 0, "too many hosts 65"),
-        (0, 32767, "switch 0"),
-        (0, 32768, "too many switches 32768"),
-    ] {
-        let input = crowded(rt.alloc(), hosts, switches)?;
-        let found = answer(&rt, rt.alloc(), input.as_bytes())?;
-        assert!(rt; found.as_str() == words, "{found}");
+fn too_many(rt: HostRuntime) -> Result<(), AllocError> {
+    for (hosts, switches, words) in &CROWDS {
+        let input = crowded(rt.alloc(), *hosts, *switches)?;
+        assert!(rt; is_answer(&rt, rt.alloc(), input.as_bytes(), words)?);
     }
     Ok(())
 }
 
-fn has_plan(input: &PlanInput, hosts: u16, levels: &[u8], patience: u64) -> bool {
-    input.plan.hosts == hosts
-        && input.plan.levels.as_slice() == levels
-        && input.plan.patience.0 == patience
+// The names in their order, the levels and the patience, and how many nodes and links.
+fn plan_words(alloc: Global, input: &PlanInput) -> Result<String, AllocError> {
+    let mut text = String::new(alloc);
+    for at in 0..input.names.len() {
+        write!(text, "{} ", input.names.name(at))?;
+    }
+    let levels = input.plan.levels.as_slice();
+    let patience = input.plan.patience.0;
+    let (nodes, links) = (input.topology.nodes(), input.topology.links());
+    write!(text, "{levels:?} {patience} {nodes} {links}")?;
+    Ok(text)
 }
 
-fn has_sizes(input: &PlanInput, names: u16, nodes: u16, links: u16) -> bool {
-    input.names.len() == names && input.topology.nodes() == nodes && input.topology.links() == links
+fn is_planned(
+    rt: &impl Abort,
+    alloc: Global,
+    input: &[u8],
+    words: &str,
+) -> Result<bool, AllocError> {
+    match read(rt, alloc, input).ok() {
+        None => Ok(false),
+        Some(input) => Ok(plan_words(alloc, &input)?.as_str() == words),
+    }
 }
 
-fn is_named(names: &Names, name: &str, number: u16) -> bool {
-    names.number(name) == Some(number)
-}
+static PLANS: [(&str, &str); 2] = [
+    ("star 2 7\n", "h0 h1 s0 [1] 7 4 5"),
+    (
+        "hosts = [\"a\", \"b\"]\nswitches = [\"low 1\", \"high-2 15\"]\ncables = [\"a low\", \"low b\", \"high-2 low\"]\n---\ntick a 5\n",
+        "a b low high-2 [1, 15] 1000 6 8",
+    ),
+];
 
 #[test]
-fn a_star_is_planned(rt: HostRuntime) -> Result<(), Fail> {
-    let star = read(rt.alloc(), b"star 2 7\n")?;
-    assert!(rt; has_plan(&star, 2, &[1], 7));
-    assert!(rt; has_sizes(&star, 3, 4, 5));
-    assert!(rt; is_named(&star.names, "h1", 1));
-    assert!(rt; is_named(&star.names, "s0", 2));
-    Ok(())
-}
-
-static TOML: &[u8] =
-    b"hosts = [\"a\", \"b\"]\nswitches = [\"low 1\", \"high-2 15\"]\ncables = [\"a low\", \"low b\", \"high-2 low\"]\n---\ntick a 5\n";
-
-#[test]
-fn a_toml_is_planned(rt: HostRuntime) -> Result<(), Fail> {
-    let input = read(rt.alloc(), TOML)?;
-    assert!(rt; has_plan(&input, 2, &[1, 15], 1000));
-    assert!(rt; has_sizes(&input, 4, 6, 8));
-    assert!(rt; is_named(&input.names, "high-2", 3));
+fn plans(rt: HostRuntime) -> Result<(), AllocError> {
+    for (input, words) in &PLANS {
+        assert!(rt; is_planned(&rt, rt.alloc(), input.as_bytes(), words)?);
+    }
     Ok(())
 }
 
 // The topology, the number of the line after it, and how many lines are read from there.
-fn are_parts(input: &[u8], topology: &[u8], line: u32, lines: u32) -> bool
-    requires { length input.now < 2 ^ 31 }
-{
-    match parts_of(input) {
-        Some(parts) => {
-            parts.topology == topology && parts.line == line && lines_read(parts.rest) == lines
+fn are_parts(rt: &impl Abort, input: &str, topology: &str, line: u32, lines: u32) -> bool {
+    assert!(rt; input.len() < 1000000);
+    match parts_of(input.as_bytes()) {
+        Some(p) => {
+            p.topology == topology.as_bytes() && p.line == line && lines_read(p.rest) == lines
         }
         None => false,
     }
 }
 
+static PARTS: [(&str, &str, u32, u32); 2] = [
+    ("star 1\r\n# no\ntick h0 1\n", "star 1", 2, 1),
+    (
+        "hosts = []\n\n---\r\n \t\ntick h0 1\n#\n x # y",
+        "hosts = []\n\n",
+        4,
+        2,
+    ),
+];
+
 #[test]
 fn parts(rt: HostRuntime) {
-    assert!(rt; are_parts(b"star 1\r\n# no\ntick h0 1\n", b"star 1", 2, 1));
-    assert!(rt;
-        are_parts(
-            b"hosts = []\n\n---\r\n \t\ntick h0 1\n#\n x # y",
-            b"hosts = []\n\n",
-            4,
-            2
-        )
-    );
+    for (input, topology, line, lines) in &PARTS {
+        assert!(rt; are_parts(&rt, input, topology, *line, *lines));
+    }
 }
 
 static NAMES: [(&str, bool); 11] = [
@@ -271,6 +273,6 @@ static NAMES: [(&str, bool); 11] = [
 #[test]
 fn names(rt: HostRuntime) {
     for (word, good) in &NAMES {
-        assert!(rt; is_name(word) == *good, "{word}");
+        assert!(rt; is_name(word) == *good);
     }
 }

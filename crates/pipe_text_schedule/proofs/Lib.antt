@@ -1,2 +1,3 @@
+pub mod HappenLaws
 pub mod NameLaws
 pub mod ScheduleLaws

@@ -1,5 +1,6 @@
 -- The hosts, nodes and links that words name. The names are those of the hosts and then those of the switches.
 use Rattle.std.specs.Prelude.{ℕ, ◌+◌, ◌-◌, ◌*◌, ◌==◌, nat_lt, if◌then◌else◌, List, length, take, drop, Option, Some, None, position, bytes_eq, codes}
+use Rattle.std.specs.Option.{option_or}
 use Rattle.std.specs.Str.{is_utf8}
 use Rattle.pipe_base.specs.Graph.{Graph}
 use Rattle.pipe_text.specs.Number.{number_of}
@@ -33,16 +34,13 @@ abbrev pub half_split : Graph → List (List ℕ) → List ℕ → Option ℕ �
 half_split graph names word None = None
 half_split graph names word (Some at) = half_at graph (name_in names (take at word)) (half_of (drop (at + 1) word))
 
+-- the half of this name
 abbrev pub half_in : Graph → List (List ℕ) → List ℕ → Option ℕ
 half_in graph names word = half_split graph names word (position (λ byte. byte == 46) word)
 
-abbrev pub host_or : Option ℕ → Option ℕ → Option ℕ
-host_or (Some host) half = Some host
-host_or None half = half
-
 -- the node of this name: a host, or a half of a switch
 abbrev pub node_in : Graph → List (List ℕ) → List ℕ → Option ℕ
-node_in graph names word = host_or (host_in graph names word) (half_in graph names word)
+node_in graph names word = option_or (host_in graph names word) (half_in graph names word)
 
 -- the link of this number
 abbrev pub link_in : Graph → List ℕ → Option ℕ

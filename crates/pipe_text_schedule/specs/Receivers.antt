@@ -12,6 +12,7 @@ use Rattle.pipe_text_schedule.specs.Named.{host_in}
 abbrev pub is_named : ℕ → List (HostId × List ℕ) → Bool
 is_named host dests = list_any (λ d. d.0.0 == host) dests
 
+-- a host and a body, in this order, where the host is no receiver before
 abbrev pub receiver_from : List (HostId × List ℕ) → Option ℕ → Option (List ℕ) → Result (HostId × List ℕ) LineKind
 receiver_from before None body = Err Node
 receiver_from before (Some host) None = Err Body

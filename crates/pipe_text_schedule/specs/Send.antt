@@ -4,6 +4,7 @@ use Rattle.std.specs.Prelude.{ℕ, ◌==◌, nat_lt, if◌then◌else◌, List, 
 use Rattle.pipe_base.specs.declared.name.HostId.{HostId}
 use Rattle.pipe_base.specs.declared.message.Service.{Service}
 use Rattle.pipe_base.specs.declared.message.Service.TheVariants.{BestEffort}
+use Rattle.pipe_base.specs.Limits.{most_receivers}
 use Rattle.pipe_base.specs.Graph.{Graph}
 use Rattle.pipe_model.specs.declared.event.Event.{Event}
 use Rattle.pipe_model.specs.declared.event.Event.TheVariants.{Send}
@@ -17,6 +18,7 @@ use Rattle.pipe_text_schedule.specs.Tick.{reading_of}
 abbrev pub service_of : List ℕ → Option Service
 service_of word = if bytes_eq word (codes "best") then Some BestEffort else None
 
+-- a host, a service, a reading and receivers, in this order
 abbrev pub send_from : Option ℕ → Option Service → Option ℕ → Result (List (HostId × List ℕ)) LineKind → Result Event LineKind
 send_from None service now dests = Err kind.Node
 send_from (Some host) None now dests = Err kind.Service
@@ -26,7 +28,7 @@ send_from (Some host) (Some service) (Some now) (Ok dests) = Ok (Send (record { 
 
 -- what was read of so many receivers, where these are one to sixteen
 abbrev pub if_few : ℕ → Result Event LineKind → Result Event LineKind
-if_few count read = if count == 0 then Err kind.Count else if nat_lt 16 count then Err kind.Receivers else read
+if_few count read = if count == 0 then Err kind.Count else if nat_lt most_receivers count then Err kind.Receivers else read
 
 -- a send of a service other than `reliable`
 abbrev pub best_line : Graph → List (List ℕ) → List ℕ → List ℕ → List (List ℕ) → Result Event LineKind

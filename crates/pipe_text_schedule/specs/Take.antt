@@ -16,6 +16,7 @@ place_of word = number_of 4294967295 word
 abbrev pub keep_of : List ℕ → Option Bool
 keep_of word = if bytes_eq word (codes "keep") then Some true else None
 
+-- a link, a place and what becomes of the packet, in this order
 abbrev pub take_from : Option ℕ → Option ℕ → Option Bool → Result Event LineKind
 take_from None place keep = Err Link
 take_from (Some link) None keep = Err Number
@@ -24,12 +25,11 @@ take_from (Some link) (Some place) (Some keep) = Ok (Take (record { 0 = link }) 
 
 -- the words after the verb
 abbrev pub take_line : Graph → List (List ℕ) → Result Event LineKind
-take_line graph [] = Err Count
-take_line graph (link ∷ []) = Err Count
 take_line graph (link ∷ place ∷ []) = take_from (link_in graph link) (place_of place) (Some false)
 take_line graph (link ∷ place ∷ keep ∷ []) = take_from (link_in graph link) (place_of place) (keep_of keep)
-take_line graph (link ∷ place ∷ keep ∷ other ∷ words) = Err Count
+take_line graph _ = Err Count
 
+-- a link and a place, in this order
 abbrev pub lose_from : Option ℕ → Option ℕ → Result Event LineKind
 lose_from None place = Err Link
 lose_from (Some link) None = Err Number
@@ -37,7 +37,5 @@ lose_from (Some link) (Some place) = Ok (Lose (record { 0 = link }) place)
 
 -- the words after the verb
 abbrev pub lose_line : Graph → List (List ℕ) → Result Event LineKind
-lose_line graph [] = Err Count
-lose_line graph (link ∷ []) = Err Count
 lose_line graph (link ∷ place ∷ []) = lose_from (link_in graph link) (place_of place)
-lose_line graph (link ∷ place ∷ other ∷ words) = Err Count
+lose_line graph _ = Err Count

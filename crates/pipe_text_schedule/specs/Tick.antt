@@ -1,5 +1,6 @@
 -- `tick NODE READING`
 use Rattle.std.specs.Prelude.{ℕ, List, [], ◌∷◌, Option, Some, None, Result, Ok, Err}
+use Rattle.pipe_base.specs.Limits.{last_stamp}
 use Rattle.pipe_base.specs.Graph.{Graph}
 use Rattle.pipe_model.specs.declared.event.Event.{Event}
 use Rattle.pipe_model.specs.declared.event.Event.TheVariants.{Tick}
@@ -10,8 +11,9 @@ use Rattle.pipe_text_schedule.specs.Named.{node_in}
 
 -- a reading of a clock
 abbrev pub reading_of : List ℕ → Option ℕ
-reading_of word = number_of 281474976710654 word
+reading_of word = number_of last_stamp word
 
+-- a node and a reading, in this order
 abbrev pub tick_from : Option ℕ → Option ℕ → Result Event LineKind
 tick_from None now = Err Node
 tick_from (Some node) None = Err Number
@@ -19,7 +21,5 @@ tick_from (Some node) (Some now) = Ok (Tick (record { 0 = node }) (record { 0 = 
 
 -- the words after the verb
 abbrev pub tick_line : Graph → List (List ℕ) → List (List ℕ) → Result Event LineKind
-tick_line graph names [] = Err Count
-tick_line graph names (node ∷ []) = Err Count
 tick_line graph names (node ∷ now ∷ []) = tick_from (node_in graph names node) (reading_of now)
-tick_line graph names (node ∷ now ∷ other ∷ words) = Err Count
+tick_line graph names _ = Err Count

@@ -4,11 +4,13 @@
 
 mod event;
 mod exact;
+mod laws;
 mod name;
 mod receivers;
 mod schedule;
 mod send;
 
+pub use laws::schedules_can_happen;
 pub use schedule::{ScheduleFault, read_schedule};
 
 #[cfg(test)]

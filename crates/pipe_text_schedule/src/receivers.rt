@@ -1,5 +1,6 @@
 // The receivers of a send: words `HOST=BODY`.
 ghost use Rattle.std.specs.Prelude.{◌≡◌, ◌==◌, ◌<◌, ◌≤◌, ℕ, [], false, map, position, length, IfOk};
+ghost use Rattle.pipe_base.specs.Limits.{most_receivers};
 ghost use Rattle.pipe_model.specs.Event.{AreReceivers};
 ghost use Rattle.pipe_text_schedule.specs.Receivers.{is_named, receiver_from, receiver_in, receivers_in};
 
@@ -16,7 +17,7 @@ pub fn read_receivers(
     topology: &Topology,
     words: &[&[u8]],
 ) -> Result<Result<DestList, LineKind>, NoMemory>
-    requires { (0 < length words.now) × (length words.now ≤ 16) }
+    requires { (0 < length words.now) × (length words.now ≤ most_receivers) }
     ensures value { IfOk result (λ read. read ≡ receivers_in topology.now names.now [] (map (λ word. word.now) words.now)) }
     ensures known { IfOk result (λ read. IfOk read (AreReceivers topology.now)) }
 {

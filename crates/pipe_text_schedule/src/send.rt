@@ -1,5 +1,6 @@
 // The line of a send.
 ghost use Rattle.std.specs.Prelude.{◌≡◌, ◌<◌, ◌≤◌, [], length, map, IfOk};
+ghost use Rattle.pipe_base.specs.Limits.{most_receivers};
 ghost use Rattle.pipe_text_schedule.specs.Line.{CanHappen};
 ghost use Rattle.pipe_text_schedule.specs.Named.{host_in};
 ghost use Rattle.pipe_text_schedule.specs.Receivers.{receivers_in};
@@ -73,7 +74,7 @@ fn read_fields(
     now: &[u8],
     receivers: &[&[u8]],
 ) -> Result<Result<Event, LineKind>, NoMemory>
-    requires { (0 < length receivers.now) × (length receivers.now ≤ 16) }
+    requires { (0 < length receivers.now) × (length receivers.now ≤ most_receivers) }
     ensures event { IfOk result (λ read. read ≡ send_from (host_in topology.now names.now host.now) (service_of service.now) (reading_of now.now) (receivers_in topology.now names.now [] (map (λ word. word.now) receivers.now))) }
     ensures known { IfOk result (λ read. IfOk read (CanHappen topology.now)) }
 {

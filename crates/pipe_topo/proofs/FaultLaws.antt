@@ -1,19 +1,23 @@
 -- What the first fault says: the first pair that is apart; and a plan without a fault joins all hosts.
-use Rattle.std.proofs.Common.{◌≡◌, ℕ, ◌<◌, ◌≤◌, nat_le, ◌&&◌, not, Bool, true, false, List, length, replicate, Option, None, Some, is_some, option_map, inl, inr, refl, sym, ap, ◌∙◌, true≢false, arith}
+use Rattle.std.proofs.Common.{◌≡◌, ℕ, ◌<◌, ◌≤◌, nat_le, nat_lt, if◌then◌else◌, ◌&&◌, not, Bool, true, false, List, length, replicate, subst, Option, None, Some, is_some, option_map, inl, inr, refl, sym, ap, ◌∙◌, true≢false, arith}
 use Rattle.std.proofs.lemmas.Bool.{le-leb}
-use Rattle.std.proofs.lemmas.Bool.Decides.{leb_tells}
+use Rattle.std.proofs.lemmas.Bool.Decides.{leb_tells, nat_tests}
 use Rattle.std.proofs.lemmas.List.{get_or-replicate}
 use Rattle.pipe_base.specs.Graph.{Graph}
 use Rattle.pipe_base.specs.Path.{every_link}
 use Rattle.pipe_base.specs.Reach.{reaches, JoinsAllHosts}
 use Rattle.pipe_paths.proofs.ReachLaws.{AreAlike, reaches_alike}
 use Rattle.pipe_paths.proofs.Turn.{reach_turns}
-use Rattle.pipe_topo.specs.Fault.{shape_fault, is_apart, apart_from, apart_at, apart_fault, fault_of}
-use Rattle.pipe_topo.specs.First.{first_of, first_below}
-use Rattle.pipe_topo.specs.Plan.{graph_of, IsPlan}
+use Rattle.pipe_topo.specs.Fault.{too_many, no_hosts, level_fault, double_fault, idle_fault, shape_fault, is_apart, apart_from, apart_at, apart_fault, fault_of}
+use Rattle.std.specs.Option.{option_or}
+use Rattle.pipe_topo.specs.First.{first_below}
+use Rattle.pipe_topo.specs.Plan.{graph_of, HasEnds, IsPlan, IsSmall}
 use Rattle.pipe_topo.specs.Sets.{has}
 use Rattle.pipe_topo.specs.declared.fault.TopoFault.{TopoFault}
-use Rattle.pipe_topo.specs.declared.fault.TopoFault.TheVariants.{Apart}
+use Rattle.pipe_topo.specs.declared.fault.TopoFault.TheVariants.{TooMany, Apart}
+use Rattle.pipe_topo.specs.declared.fault.What.{What}
+use Rattle.pipe_topo.specs.declared.fault.What.TheVariants.{Hosts, Switches, Cables}
+use Rattle.pipe_topo.specs.declared.plan.CableEnd.{CableEnd}
 use Rattle.pipe_topo.specs.declared.plan.Plan.{Plan}
 use Rattle.pipe_topo.proofs.FirstLaws.{none_first, first_at, first_none, first_passes}
 use Rattle.pipe_topo.proofs.LinkLaws.{plan_is_graph}
@@ -70,6 +74,16 @@ no_apart_joins plan is none a b a_lt b_lt =
           (not_apart (graph_of plan) b a (none_apart (graph_of plan) none b a b_lt a_lt) (omega (arith, gt.1)))
     ]
 
+-- the graph that was made of a plan joins all hosts, where no such fault was found; levels and cables are seen as slices
+pub made_joins : (plan : Plan) (levels : List ℕ) (cables : List (CableEnd × CableEnd)) (g : Graph) → levels ≡ plan.levels → cables ≡ plan.cables
+    → IsSmall plan.hosts (length levels) (length cables) → HasEnds plan.hosts (length plan.levels) plan.cables
+    → g ≡ graph_of plan → apart_fault g ≡ None → JoinsAllHosts g
+made_joins plan levels cables g levels_are cables_are small ends made none =
+    let few : IsSmall plan.hosts (length plan.levels) (length plan.cables) =
+    subst (λ (p : List ℕ × List (CableEnd × CableEnd)). IsSmall plan.hosts (length p.0) (length p.1)) (λ i. (levels_are i, cables_are i)) small in
+    let is : IsPlan plan = record { small = few; ends = ends } in
+    subst JoinsAllHosts (sym made) (no_apart_joins plan is (ap apart_fault (sym made) ∙ none))
+
 -- a graph that joins all hosts has no fault of this kind
 pub joined_none_apart : (g : Graph) → JoinsAllHosts g → apart_fault g ≡ None
 joined_none_apart g joins =
@@ -84,9 +98,35 @@ joined_none_apart g joins =
     together : (a b : ℕ) → reaches g every_link a b ≡ true → is_apart g a b ≡ false
     together a b is = ap (λ (t : Bool). nat_le a b && not t) is ∙ and_false (nat_le a b)
 
-no_apart_fault : (shape apart : Option TopoFault) → first_of shape apart ≡ None → apart ≡ None
-no_apart_fault None apart h = h
-no_apart_fault (Some fault) apart h = cc
+neither : (shape apart : Option TopoFault) → option_or shape apart ≡ None → (shape ≡ None) × (apart ≡ None)
+neither None apart none = (refl, none)
+neither (Some fault) apart none = absurd cc
 
 pub no_fault_joins : (plan : Plan) → IsPlan plan → fault_of plan ≡ None → JoinsAllHosts (graph_of plan)
-no_fault_joins plan is none = no_apart_joins plan is (no_apart_fault (shape_fault plan.hosts plan.levels plan.cables) (apart_fault (graph_of plan)) none)
+no_fault_joins plan is none = no_apart_joins plan is (neither (shape_fault plan.hosts plan.levels plan.cables) (apart_fault (graph_of plan)) none).1
+
+few_of : (what : What) (limit count : ℕ) → too_many what limit count ≡ None → count ≤ limit
+few_of what limit count none = pick (nat_lt limit count) refl none
+  where
+    pick : (t : Bool) → nat_lt limit count ≡ t → (if t then Some (TooMany what count) else None) ≡ None → count ≤ limit
+    pick true is some = absurd cc
+    pick false is no_fault = grind (arith, nat_tests)
+
+-- of faults in their order there is none: the second to fourth are not there
+second_to_fourth : (a b c d rest : Option TopoFault) → option_or a (option_or b (option_or c (option_or d rest))) ≡ None → (b ≡ None) × (c ≡ None) × (d ≡ None)
+second_to_fourth (Some fault) b c d rest none = absurd cc
+second_to_fourth None (Some fault) c d rest none = absurd cc
+second_to_fourth None None (Some fault) d rest none = absurd cc
+second_to_fourth None None None (Some fault) rest none = absurd cc
+second_to_fourth None None None None rest none = (refl, refl, refl)
+
+pub no_fault_small : (plan : Plan) → fault_of plan ≡ None → IsSmall plan.hosts (length plan.levels) (length plan.cables)
+no_fault_small plan none =
+    let shape = (neither (shape_fault plan.hosts plan.levels plan.cables) (apart_fault (graph_of plan)) none).0 in
+    let few = second_to_fourth (no_hosts plan.hosts) (too_many Hosts 64 plan.hosts) (too_many Switches 64 (length plan.levels)) (too_many Cables 512 (length plan.cables))
+    (option_or (level_fault plan.levels plan.cables) (option_or (double_fault plan.cables) (idle_fault plan.levels plan.cables))) shape in
+    record {
+      few_hosts = few_of Hosts 64 plan.hosts few.0;
+      few_switches = few_of Switches 64 (length plan.levels) few.1;
+      few_cables = few_of Cables 512 (length plan.cables) few.2;
+    }

@@ -1,11 +1,8 @@
 -- Lemmas on the least number that passes a test.
 use Rattle.std.proofs.Common.{◌≡◌, ℕ, zero, suc, ◌+◌, ◌<◌, Bool, true, false, if◌then◌else◌, Option, None, Some, inl, inr, refl, sym, subst, ◌∙◌, arith}
 use Rattle.std.proofs.lemmas.Bool.Decides.{eqb_tells}
-use Rattle.pipe_topo.specs.First.{first_of, first_below}
-
-first_of_none : (o : Option ℕ) → first_of o None ≡ o
-first_of_none None = refl
-first_of_none (Some n) = refl
+use Rattle.std.specs.Option.{option_or}
+use Rattle.pipe_topo.specs.First.{first_below}
 
 pub first_more : (p : ℕ → Bool) (k : ℕ) → first_below p k ≡ None → p k ≡ false → first_below p (k + 1) ≡ None
 first_more p k none isnt =
@@ -32,7 +29,7 @@ first_none p zero k none lt = absurd (omega arith)
 first_none p (suc n) k none lt = pick (λ before below. first_none p n k before below) (first_below p n) (p n) refl refl none
   where
     pick : (first_below p n ≡ None → k < n → p k ≡ false) → (before : Option ℕ) (here : Bool)
-        → first_below p n ≡ before → p n ≡ here → first_of before (if here then Some n else None) ≡ None → p k ≡ false
+        → first_below p n ≡ before → p n ≡ here → option_or before (if here then Some n else None) ≡ None → p k ≡ false
     pick earlier None false none_before isnt h =
         elim (eqb_tells k n) [
           | inl same ↦ subst (λ (m : ℕ). p m ≡ false) (sym same.1) isnt
@@ -47,7 +44,7 @@ first_passes p zero k is = cc
 first_passes p (suc n) k is = pick (λ before. first_passes p n k before) (first_below p n) (p n) refl refl is
   where
     pick : (first_below p n ≡ Some k → p k ≡ true) → (before : Option ℕ) (here : Bool)
-        → first_below p n ≡ before → p n ≡ here → first_of before (if here then Some n else None) ≡ Some k → p k ≡ true
+        → first_below p n ≡ before → p n ≡ here → option_or before (if here then Some n else None) ≡ Some k → p k ≡ true
     pick earlier (Some m) here is_before passes h = earlier (is_before ∙ h)
     pick earlier None true is_before passes h = let same : n ≡ k = cc in subst (λ (m : ℕ). p m ≡ true) same passes
     pick earlier None false is_before passes h = cc

@@ -113,7 +113,7 @@ plan_is_graph plan is = record {
 
 pub plan_is_network : (plan : Plan) → IsPlan plan → IsNetwork (graph_of plan) (length plan.levels)
 plan_is_network plan is = record {
-  joined = plan_is_graph plan is;
+  is_graph = plan_is_graph plan is;
   halves = refl;
   few_hosts = is.small.few_hosts;
   few_switches = is.small.few_switches;

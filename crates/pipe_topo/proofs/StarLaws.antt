@@ -17,7 +17,7 @@ use Rattle.pipe_topo.specs.declared.fault.TopoFault.TheVariants.{DoubleCable}
 use Rattle.pipe_topo.specs.declared.plan.CableEnd.{CableEnd}
 use Rattle.pipe_topo.specs.declared.plan.CableEnd.TheVariants.{Switch}
 use Rattle.pipe_topo.specs.Fault.{is_level, level_fault, same_ends, no_cable, repeats, double_fault, leads_down, idle_fault, shape_fault, apart_fault, fault_of}
-use Rattle.pipe_topo.specs.First.{first_of}
+use Rattle.std.specs.Option.{option_or}
 use Rattle.pipe_topo.specs.Plan.{up_node, down_node, joined, cable_links, loop_of, plan_links, graph_of, IsEnd, HasEnds, IsPlan}
 use Rattle.pipe_topo.specs.Star.{host_cable, star_plan}
 use Rattle.pipe_topo.proofs.FaultLaws.{joined_none_apart}
@@ -66,8 +66,8 @@ no_idle_fault n some =
     rw down refl
 
 -- neither of the two is there
-neither : (first later : Option TopoFault) → first ≡ None → later ≡ None → first_of first later ≡ None
-neither first later no_first no_later = ap (λ (o : Option TopoFault). first_of o later) no_first ∙ no_later
+neither : (first later : Option TopoFault) → first ≡ None → later ≡ None → option_or first later ≡ None
+neither first later no_first no_later = ap (λ (o : Option TopoFault). option_or o later) no_first ∙ no_later
 
 no_shape_fault : (n : ℕ) → 1 ≤ n → n ≤ 64 → shape_fault n (1 ∷ []) (star_cables n) ≡ None
 no_shape_fault n some few =

@@ -70,14 +70,14 @@ module _ (plan : Plan) (is : IsPlan plan) (levels : List ℕ) (cables : List (Ca
 
   pub made_heads : All (λ (l : Link). l.head.0 < nodes) listed
   made_heads k d lt =
-      let inside = made_network.joined.heads_in k (subst (λ (ls : List Link). k < length ls) listed_are lt) in
+      let inside = made_network.is_graph.heads_in k (subst (λ (ls : List Link). k < length ls) listed_are lt) in
       let read : head_of made k ≡ (get_or listed k d).head.0 =
       ap (λ (ls : List Link). (get_or ls k no_link).head.0) (sym listed_are) ∙ ap (λ (l : Link). l.head.0) (get_or_default listed k no_link d lt) in
       omega arith
 
   pub made_tails : All (λ (l : Link). l.tail.0 < nodes) listed
   made_tails k d lt =
-      let inside = made_network.joined.tails_in k (subst (λ (ls : List Link). k < length ls) listed_are lt) in
+      let inside = made_network.is_graph.tails_in k (subst (λ (ls : List Link). k < length ls) listed_are lt) in
       let read : tail_of made k ≡ (get_or listed k d).tail.0 =
       ap (λ (ls : List Link). (get_or ls k no_link).tail.0) (sym listed_are) ∙ ap (λ (l : Link). l.tail.0) (get_or_default listed k no_link d lt) in
       omega arith

@@ -1,12 +1,8 @@
--- The first of several things.
+-- The first number that passes a test.
 use Rattle.std.specs.Prelude.{ℕ, zero, suc, if◌then◌else◌, Bool, Option, None, Some}
-
--- the first that is there
-abbrev pub first_of : {A : Type 0} → Option A → Option A → Option A
-first_of None later = later
-first_of (Some x) later = Some x
+use Rattle.std.specs.Option.{option_or}
 
 -- the least number below a bound that passes the test
 abbrev pub first_below : (ℕ → Bool) → ℕ → Option ℕ
 first_below test zero = None
-first_below test (suc n) = first_of (first_below test n) (if test n then Some n else None)
+first_below test (suc n) = option_or (first_below test n) (if test n then Some n else None)

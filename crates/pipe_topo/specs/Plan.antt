@@ -31,6 +31,7 @@ rises levels (Switch a) (Switch b) = nat_lt (level_of levels a) (level_of levels
 abbrev pub lower_first : List ℕ → CableEnd × CableEnd → CableEnd × CableEnd
 lower_first levels cable = if rises levels cable.0 cable.1 then cable else (cable.1, cable.0)
 
+-- a link from one node to another
 abbrev pub joined : ℕ → ℕ → Link
 joined tail head = record { tail = record { 0 = tail }; head = record { 0 = head } }
 
@@ -38,6 +39,7 @@ joined tail head = record { tail = record { 0 = tail }; head = record { 0 = head
 abbrev pub links_between : ℕ → CableEnd × CableEnd → List Link
 links_between hosts cable = joined (up_node hosts cable.0) (up_node hosts cable.1) ∷ joined (down_node hosts cable.1) (down_node hosts cable.0) ∷ []
 
+-- the two links of a cable, whichever end is given first
 abbrev pub cable_links : ℕ → List ℕ → CableEnd × CableEnd → List Link
 cable_links hosts levels cable = links_between hosts (lower_first levels cable)
 
@@ -49,6 +51,7 @@ loop_of hosts switch = joined (up_node hosts (Switch switch)) (down_node hosts (
 abbrev pub plan_links : ℕ → List ℕ → List (CableEnd × CableEnd) → List Link
 plan_links hosts levels cables = flat_map (cable_links hosts levels) cables ++ map (loop_of hosts) (range_with_len 0 (length levels))
 
+-- the graph of a plan: its hosts, two halves for each switch, and its links in their order
 abbrev pub graph_of : Plan → Graph
 graph_of plan = record {
   hosts = plan.hosts;

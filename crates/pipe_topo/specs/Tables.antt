@@ -9,7 +9,7 @@ use Rattle.pipe_topo.specs.declared.plan.CableEnd.TheVariants.{Host, Switch}
 
 -- A graph within the limits of networks: 64 hosts, 64 switches with two halves and a loop each, and 512 cables with two links each.
 pub record IsNetwork (graph : Graph) (switches : ℕ) : Type 0 where
-  pub joined : IsGraph graph
+  pub is_graph : IsGraph graph
   pub halves : graph.nodes ≡ graph.hosts + 2 * switches
   pub few_hosts : graph.hosts ≤ 64
   pub few_switches : switches ≤ 64
@@ -27,10 +27,11 @@ pub record HasTables (graph : Graph) (switches : ℕ) (ins outs : List (List Lin
   pub ins_are : IsTable graph (ins_of graph) ins
   pub outs_are : IsTable graph (outs_of graph) outs
 
--- where the links of a list begin and end
+-- where a link of a list begins
 abbrev pub tail_at : List Link → ℕ → ℕ
 tail_at links l = (slice_index_or links l no_link).tail.0
 
+-- where a link of a list ends
 abbrev pub head_at : List Link → ℕ → ℕ
 head_at links l = (slice_index_or links l no_link).head.0
 

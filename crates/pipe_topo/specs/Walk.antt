@@ -8,6 +8,7 @@ use Rattle.pipe_base.specs.Path.{Leads}
 abbrev pub far : ℕ
 far = 65535
 
+-- the entry of a node
 abbrev pub away_of : List ℕ → ℕ → ℕ
 away_of away node = slice_index_or away node far
 
@@ -17,6 +18,7 @@ pub record IsDistances (graph : Graph) (by : ℕ → Bool) (to : ℕ) (away : Li
   pub found : (node : ℕ) → away_of away node < far → (ls : List ℕ) × Leads graph by node to ls × (length ls ≡ away_of away node)
   pub least : (node : ℕ) (ls : List ℕ) → Leads graph by node to ls → away_of away node ≤ length ls
 
+-- a number as the name of a node
 abbrev pub node_id : ℕ → NodeId
 node_id n = record { 0 = n }
 

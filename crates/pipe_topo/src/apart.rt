@@ -2,17 +2,18 @@
 ghost use Rattle.std.specs.Prelude.{◌≡◌, ◌<◌, ◌≤◌, length, replicate, true, IfOk};
 ghost use Rattle.pipe_topo.specs.Fault.{apart_fault, apart_from, is_apart};
 
-use crate::{LinkSet, TopoFault, Topology};
+use crate::wiring::Wiring;
+use crate::{LinkSet, TopoFault};
 use pipe_base::{NoMemory, NodeId};
 use std::alloc::Global;
 
 // The first pair of hosts that are apart, in order of the first and then of the second.
-pub fn apart_fault(alloc: Global, topology: &Topology) -> Result<Option<TopoFault>, NoMemory>
-    ensures { IfOk result (λ fault. fault ≡ apart_fault topology.now) }
+pub fn apart_fault(alloc: Global, wiring: &Wiring) -> Result<Option<TopoFault>, NoMemory>
+    ensures { IfOk result (λ fault. fault ≡ apart_fault wiring.now) }
 {
-    let all = LinkSet::all(alloc, topology.links())?;
-    for a in 0..topology.hosts() {
-        if let Some(b) = apart_from(alloc, topology, &all, a)? {
+    let all = LinkSet::all(alloc, wiring.links())?;
+    for a in 0..wiring.hosts() {
+        if let Some(b) = apart_from(alloc, wiring, &all, a)? {
             return Ok(Some(TopoFault::Apart { a, b }));
         }
     }
@@ -23,38 +24,32 @@ pub fn apart_fault(alloc: Global, topology: &Topology) -> Result<Option<TopoFaul
 #[tactic(auto, using(crate::proofs::FirstLaws::first_at, crate::proofs::FirstLaws::first_more))]
 fn apart_from(
     alloc: Global,
-    topology: &Topology,
+    wiring: &Wiring,
     all: &LinkSet,
     a: u16,
 ) -> Result<Option<u16>, NoMemory>
-    requires host { a < topology.now.hosts }
-    requires all { all.now ≡ replicate (length topology.now.links) true }
-    ensures { IfOk result (λ b. b ≡ apart_from topology.now a) }
+    requires host { a < wiring.now.hosts }
+    requires all { all.now ≡ replicate (length wiring.now.links) true }
+    ensures { IfOk result (λ b. b ≡ apart_from wiring.now a) }
 {
-    for b in 0..topology.hosts() {
-        if is_apart(alloc, topology, all, a, b)? {
+    for b in 0..wiring.hosts() {
+        if is_apart(alloc, wiring, all, a, b)? {
             return Ok(Some(b));
         }
     }
     Ok(None)
 }
 
-fn is_apart(
-    alloc: Global,
-    topology: &Topology,
-    all: &LinkSet,
-    a: u16,
-    b: u16,
-) -> Result<bool, NoMemory>
-    requires nodes { topology.now.hosts ≤ topology.now.nodes }
-    requires first { a < topology.now.hosts }
-    requires second { b < topology.now.hosts }
-    requires all { all.now ≡ replicate (length topology.now.links) true }
-    ensures { IfOk result (λ yes. yes ≡ is_apart topology.now a b) }
+fn is_apart(alloc: Global, wiring: &Wiring, all: &LinkSet, a: u16, b: u16) -> Result<bool, NoMemory>
+    requires nodes { wiring.now.hosts ≤ wiring.now.nodes }
+    requires first { a < wiring.now.hosts }
+    requires second { b < wiring.now.hosts }
+    requires all { all.now ≡ replicate (length wiring.now.links) true }
+    ensures { IfOk result (λ yes. yes ≡ is_apart wiring.now a b) }
 {
     if b < a {
         return Ok(false);
     }
-    let reached = topology.reaches(alloc, NodeId(a), NodeId(b), all)?;
+    let reached = wiring.reaches(alloc, NodeId(a), NodeId(b), all)?;
     Ok(!reached)
 }

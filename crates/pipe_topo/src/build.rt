@@ -6,7 +6,7 @@ ghost use Rattle.pipe_topo.specs.Plan.{HasEnds, IsPlan, graph_of};
 
 use crate::apart::apart_fault;
 use crate::shape::shape_fault;
-use crate::tables::topology_of;
+use crate::tables::wiring_of;
 use crate::{Plan, TopoFault, Topology};
 use std::alloc::Global;
 
@@ -26,10 +26,10 @@ impl Topology {
         if let Some(fault) = shape_fault(plan.hosts, levels, plan.cables.as_slice()) {
             return Err(fault);
         }
-        let topology = topology_of(alloc, plan)?;
-        match apart_fault(alloc, &topology)? {
+        let wiring = wiring_of(alloc, plan)?;
+        match apart_fault(alloc, &wiring)? {
             Some(fault) => Err(fault),
-            None => Ok(topology),
+            None => Ok(Topology { wiring }),
         }
     }
 }

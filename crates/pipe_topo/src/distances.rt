@@ -37,11 +37,11 @@ impl Distances {
         requires node { to.0 < topology.now.nodes }
         requires links { length by.now ≡ length topology.now.links }
         ensures right { IfOk result (λ away. IsDistances topology.now (has by.now) to.0 away) }
-        ensures joined { IsGraph topology.now }
+        ensures graph { IsGraph topology.now }
         ensures few { topology.now.nodes ≤ 192 }
     {
         Ok(Distances {
-            away: walk_back(alloc, topology, to, by)?,
+            away: walk_back(alloc, &topology.wiring, to, by)?,
         })
     }
 

@@ -1,17 +1,22 @@
 // What every plan's graph has. Each law is a function that does nothing and ensures it.
-ghost use Rattle.std.specs.Prelude.{◌≡◌, ℕ, ◌≤◌, None};
+ghost use Rattle.std.specs.Prelude.{◌≡◌, ℕ, ◌≤◌, length, None};
 ghost use Rattle.pipe_base.specs.declared.name.Ts.{Ts};
 ghost use Rattle.pipe_base.specs.Graph.{IsGraph};
 ghost use Rattle.pipe_base.specs.Reach.{JoinsAllHosts};
 ghost use Rattle.pipe_paths.specs.Mirror.{IsMirrored};
 ghost use Rattle.pipe_topo.specs.Fault.{fault_of};
-ghost use Rattle.pipe_topo.specs.Plan.{IsPlan, graph_of};
+ghost use Rattle.pipe_topo.specs.Plan.{IsPlan, IsSmall, graph_of};
 ghost use Rattle.pipe_topo.specs.Star.{star_plan};
 ghost use Rattle.pipe_topo.specs.declared.plan.Plan.{Plan};
 
 /// A plan without a fault joins any two hosts both ways, and each host with itself.
 pub fn no_fault_joins_all()
     ensures { (plan : Plan) → IsPlan plan → fault_of plan ≡ None → JoinsAllHosts (graph_of plan) }
+{}
+
+/// A plan without a fault is within the limits.
+pub fn no_fault_is_small()
+    ensures { (plan : Plan) → fault_of plan ≡ None → IsSmall plan.hosts (length plan.levels) (length plan.cables) }
 {}
 
 /// The graph of a plan joins its nodes alone, and for each link it has one that goes the other way.

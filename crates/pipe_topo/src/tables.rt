@@ -4,14 +4,15 @@ ghost use Rattle.pipe_topo.specs.Plan.{HasEnds, IsEnd, IsPlan, down_node, graph_
 ghost use Rattle.pipe_topo.specs.Tables.{IsListed, IsSmallEnd, head_at, tail_at};
 
 use crate::shape::lower_first;
-use crate::{Cable, CableEnd, Plan, Topology};
+use crate::wiring::Wiring;
+use crate::{Cable, CableEnd, Plan};
 use pipe_base::{Link, LinkId, List, NoMemory, NodeId};
 use std::alloc::Global;
 
-// The topology of a plan without a fault in its shape.
-pub fn topology_of(alloc: Global, plan: &Plan) -> Result<Topology, NoMemory>
+// The wiring of a plan without a fault in its shape.
+pub fn wiring_of(alloc: Global, plan: &Plan) -> Result<Wiring, NoMemory>
     requires { IsPlan plan.now }
-    ensures { IfOk result (λ topology. topology ≡ graph_of plan.now) }
+    ensures { IfOk result (λ wiring. wiring ≡ graph_of plan.now) }
 {
     let levels = plan.levels.as_slice();
     let switches = levels.len() as u16;
@@ -20,7 +21,7 @@ pub fn topology_of(alloc: Global, plan: &Plan) -> Result<Topology, NoMemory>
     let listed = links.as_slice();
     let ins = ins_table(alloc, nodes, listed)?;
     let outs = outs_table(alloc, nodes, listed)?;
-    Ok(Topology {
+    Ok(Wiring {
         hosts: plan.hosts,
         switches,
         links,

@@ -1,33 +1,29 @@
 // A network as a graph: nodes, and links with a tail and a head each.
 ghost use Rattle.std.specs.Prelude.{◌≡◌, ℕ, ◌+◌, ◌*◌, ◌<◌, ◌≤◌, length, All, IfOk};
 ghost use Rattle.pipe_base.specs.Graph.{Graph, IsGraph, head_of, ins_of, is_half, is_host, outs_of, tail_of};
+ghost use Rattle.pipe_base.specs.Reach.{JoinsAllHosts};
 
-use pipe_base::{Link, LinkId, List, NoMemory, NodeId, Ts};
+use crate::wiring::Wiring;
+use pipe_base::{Link, LinkId, NoMemory, NodeId, Ts};
 use std::marker::Model;
 
 /// The nodes are first the hosts, then for each switch its up half and its down half. Cable c has the links `2 * c`,
 /// which goes up, and `2 * c + 1`, which goes down; after these each switch has a loop link from its up half to its
-/// down half.
-#[derive(Clone, Drop)]
+/// down half. Any two hosts reach each other.
+#[derive(Drop)]
 pub struct Topology {
-    pub(crate) hosts: u16,
-    pub(crate) switches: u16,
-    pub(crate) links: Vec<Link>,
-    pub(crate) ins: Vec<List<LinkId>>,
-    pub(crate) outs: Vec<List<LinkId>>,
-    pub(crate) patience: Ts,
+    pub(crate) wiring: Wiring,
 }
 
 impl Model for Topology {
-    ghost use Rattle.std.specs.Prelude.{◌+◌, ◌*◌};
     ghost use Rattle.pipe_base.specs.Graph.{Graph};
-    ghost use Rattle.pipe_topo.specs.Tables.{HasTables};
+    ghost use Rattle.pipe_base.specs.Reach.{JoinsAllHosts};
 
     ghost Value = { Graph };
 
-    ghost view = { λ t. record { hosts = t.hosts; nodes = t.hosts + 2 * t.switches; links = t.links.items; patience = t.patience.0 } };
+    ghost view = { λ t. t.wiring };
 
-    ghost invariant = { λ t. HasTables (record { hosts = t.hosts; nodes = t.hosts + 2 * t.switches; links = t.links.items; patience = t.patience.0 }) t.switches t.ins.items t.outs.items };
+    ghost invariant = { λ t. JoinsAllHosts t.wiring };
 }
 
 impl Topology {
@@ -35,37 +31,38 @@ impl Topology {
         ensures value { result ≡ self.now.hosts }
         ensures few { result ≤ 64 }
         ensures are_nodes { result ≤ self.now.nodes }
+        ensures joined { JoinsAllHosts self.now }
     {
-        self.hosts
+        self.wiring.hosts()
     }
 
     pub fn switches(&self) -> u16
         ensures value { self.now.nodes ≡ self.now.hosts + 2 * result }
         ensures few { result ≤ 64 }
     {
-        self.switches
+        self.wiring.switches()
     }
 
     pub fn nodes(&self) -> u16
         ensures value { result ≡ self.now.nodes }
         ensures few { result ≤ 192 }
-        ensures joined { IsGraph self.now }
+        ensures graph { IsGraph self.now }
     {
-        self.hosts + 2 * self.switches
+        self.wiring.nodes()
     }
 
     pub fn links(&self) -> u16
         ensures value { result ≡ length self.now.links }
         ensures few { result ≤ 1088 }
     {
-        self.links.len() as u16
+        self.wiring.links()
     }
 
     /// Where each link begins and ends, in the order of their numbers.
     pub fn ends(&self) -> &[Link]
         ensures { result.now ≡ self.now.links }
     {
-        &self.links
+        self.wiring.ends()
     }
 
     /// Where the link begins.
@@ -74,7 +71,7 @@ impl Topology {
         ensures value { result.0 ≡ tail_of self.now link.0 }
         ensures known { result.0 < self.now.nodes }
     {
-        self.links[usize::from(link.0)].tail
+        self.wiring.tail(link)
     }
 
     /// Where the link ends.
@@ -83,7 +80,7 @@ impl Topology {
         ensures value { result.0 ≡ head_of self.now link.0 }
         ensures known { result.0 < self.now.nodes }
     {
-        self.links[usize::from(link.0)].head
+        self.wiring.head(link)
     }
 
     /// The links that end at the node, in rising number.
@@ -92,7 +89,7 @@ impl Topology {
         ensures value { result.now ≡ ins_of self.now node.0 }
         ensures known { All (λ l. l.0 < length self.now.links) result.now }
     {
-        self.ins[usize::from(node.0)].as_slice()
+        self.wiring.ins(node)
     }
 
     /// The links that begin at the node, in rising number.
@@ -101,31 +98,32 @@ impl Topology {
         ensures value { result.now ≡ outs_of self.now node.0 }
         ensures known { All (λ l. l.0 < length self.now.links) result.now }
     {
-        self.outs[usize::from(node.0)].as_slice()
+        self.wiring.outs(node)
     }
 
     pub fn patience(&self) -> Ts
         ensures { result.0 ≡ self.now.patience }
     {
-        self.patience
+        self.wiring.patience()
     }
 
     pub fn is_host(&self, node: NodeId) -> bool
         ensures { result ≡ is_host self.now node.0 }
     {
-        node.0 < self.hosts
+        node.0 < self.wiring.hosts()
     }
 
     /// The node is a half of a switch, and no host.
     pub fn is_half(&self, node: NodeId) -> bool
         ensures { result ≡ is_half self.now node.0 }
     {
-        self.hosts <= node.0
+        self.wiring.is_half(node)
     }
 
     pub fn try_clone(&self) -> Result<Topology, NoMemory>
         ensures { IfOk result (λ copy. copy ≡ self.now) }
     {
-        Ok(self.clone()?)
+        let wiring = self.wiring.try_clone()?;
+        Ok(Topology { wiring })
     }
 }

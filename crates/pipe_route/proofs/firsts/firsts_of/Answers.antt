@@ -13,4 +13,4 @@ returns c =
     take_all c.loop-link.link-index c.outs-outs.result.now c.loop-link-test.false ∙ c.outs-outs.ensures.value in
     c.loop-link.invariant
     ∙ (λ i. filter (λ (k : LinkId). is_first c.args.topology.now (has c.args.by.now) (c.away.view_is i) c.least_distance-nearest.result k.0) (whole i))
-    ∙ firsts_are c.args.topology.now (has c.args.by.now) c.args.node.0 c.args.dst.0 c.least_distance-nearest.result c.in_ok-away.away c.to.ensures.joined c.to.ensures.few c.in_ok-away.ensures.right c.least_distance-nearest.ensures
+    ∙ firsts_are c.args.topology.now (has c.args.by.now) c.args.node.0 c.args.dst.0 c.least_distance-nearest.result c.in_ok-away.away c.to.ensures.graph c.to.ensures.few c.in_ok-away.ensures.right c.least_distance-nearest.ensures

@@ -4,4 +4,4 @@ use Rattle.pipe_topo.specs.First.{first_below}
 use Rattle.pipe_topo.proofs.apart.apart_fault.Given as goal
 
 abbrev pub invariant-loop-a : goal.invariant-loop-a
-invariant-loop-a l = first_below (λ (a : ℕ). is_some (apart_from l.topology a)) l.a ≡ None
+invariant-loop-a l = first_below (λ (a : ℕ). is_some (apart_from l.wiring a)) l.a ≡ None

@@ -6,6 +6,6 @@ use Rattle.pipe_topo.proofs.walk.look_back.Given as goal
 
 abbrev pub invariant-loop-link : goal.invariant-loop-link
 invariant-loop-link l = record {
-  looking : (to : ℕ) → IsWalk l.topology (has l.by) to l.initial.away (l.fn.node ∷ l.initial.queue.items) → IsLooking l.topology (has l.by) to l.fn.node.0 l.next (take l.link-index l.link-items) l.away l.queue.items;
+  looking : (to : ℕ) → IsWalk l.wiring (has l.by) to l.initial.away (l.fn.node ∷ l.initial.queue.items) → IsLooking l.wiring (has l.by) to l.fn.node.0 l.next (take l.link-index l.link-items) l.away l.queue.items;
   work : sum l.away + length l.queue.items ≤ sum l.initial.away + length l.initial.queue.items;
 }
