@@ -1,11 +1,11 @@
 -- The links to the nearest nodes are those that begin a shortest path.
-use Rattle.std.proofs.Common.{◌≡◌, ◌⊎◌, ℕ, ◌+◌, ◌<◌, ◌≤◌, ◌==◌, nat_lt, ◌&&◌, min, if◌then◌else◌, cond, Bool, true, false, List, [], ◌∷◌, ◌++◌, length, filter, get_or, take, map, not, All, inl, inr, refl, sym, ap, subst, ◌∙◌, true≢false, arith}
+use Rattle.std.proofs.Common.{◌≡◌, ◌⊎◌, ℕ, ◌+◌, ◌<◌, ◌≤◌, ◌==◌, nat_lt, ◌&&◌, min, if◌then◌else◌, Bool, true, false, List, [], ◌∷◌, ◌++◌, length, filter, get_or, take, map, not, All, inl, inr, refl, sym, ap, subst, ◌∙◌, true≢false, arith}
 use Rattle.std.proofs.lemmas.Bool.{eqb-true, eq-eqb, ltb-true, lt-ltb}
 use Rattle.std.proofs.lemmas.Bool.Decides.{leb_tells}
-use Rattle.std.proofs.lemmas.List.Elements.{All-more, All-weaker, All-nil, All-contains}
+use Rattle.std.proofs.lemmas.List.Elements.{All-more, All-weaker, All-nil}
 use Rattle.pipe_base.specs.declared.name.LinkId.{LinkId}
 use Rattle.pipe_base.specs.Graph.{Graph, IsGraph, tail_of, head_of, link_id, outs_of}
-use Rattle.pipe_base.specs.Path.{LeavesBy, Leads, IsPath}
+use Rattle.pipe_base.specs.Path.{LeavesBy, IsPath}
 use Rattle.pipe_base.specs.ShortestRoute.{BeginsShortest, begins_shortest, firsts_of}
 use Rattle.std.specs.List.{range_with_len}
 use Rattle.std.proofs.lemmas.List.{get_or-map}

@@ -1,5 +1,5 @@
 -- What an input says has a network, in which each of its events can happen.
-use Rattle.std.proofs.Common.{◌≡◌, ℕ, nat_lt, Bool, true, false, if◌then◌else◌, List, All, Option, None, Some, Result, Ok, Err}
+use Rattle.std.proofs.Common.{ℕ, nat_lt, Bool, true, false, if◌then◌else◌, List, All, Option, None, Some, Result, Ok, Err}
 use Rattle.std.specs.Result.{IfOk}
 use Rattle.std.specs.Str.Lines.{lines}
 use Rattle.pipe_base.specs.Limits.{most_events}
