@@ -5,7 +5,8 @@ use Rattle.pipe_base.specs.declared.fault.Size.TheVariants.{Bytes, Events, Items
 use Rattle.pipe_base.specs.Graph.{Graph}
 use Rattle.pipe_model.specs.declared.event.Event.{Event}
 use Rattle.pipe_model.specs.declared.record.Record.{Record}
-use Rattle.pipe_model.specs.Items.{items_of, most_items}
+use Rattle.pipe_base.specs.Limits.{most_items}
+use Rattle.pipe_model.specs.Items.{items_of}
 use Rattle.pipe_model.specs.Order.{AreLogsOrdered, AreStampsCausal, IsGenuine}
 use Rattle.pipe_model.specs.Run.{IsRun}
 use Rattle.pipe_text_input.specs.Content.{Content}

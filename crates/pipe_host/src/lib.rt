@@ -6,3 +6,6 @@ mod host;
 mod times;
 
 pub use host::Host;
+
+#[cfg(test)]
+mod tests;

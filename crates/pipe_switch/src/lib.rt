@@ -4,3 +4,6 @@
 mod half;
 
 pub use half::Half;
+
+#[cfg(test)]
+mod tests;

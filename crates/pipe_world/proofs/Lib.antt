@@ -1,9 +1,5 @@
-pub mod Items
-pub mod NodeSteps
 pub mod Passing
-pub mod Routes
 pub mod RunLaws
+pub mod StepPuts
 pub mod WaitingLists
-pub mod Ways
-pub mod Works
 pub mod WorldSteps

@@ -1,38 +1,42 @@
 -- One event of the world: its record is what the rules say, and what is kept follows it.
-use Rattle.std.proofs.Common.{◌≡◌, ◌≢◌, ℕ, ◌<◌, Bool, true, false, if◌then◌else◌, List, [], ◌∷◌, ◌++◌, length, set, refl, sym, subst, ap, ◌∙◌, arith, inl, inr, eq-eqb, ne_eqb}
+use Rattle.std.proofs.Common.{◌≡◌, ◌≢◌, ℕ, ◌<◌, ◌==◌, Bool, true, false, if◌then◌else◌, List, [], ◌∷◌, ◌++◌, length, set, refl, sym, subst, ap, ◌∙◌, arith, inl, inr, eq-eqb, ne_eqb}
 use Rattle.std.specs.Prelude.{nat_le, nat_lt, not, reverse, slice_get, slice_index_or, Result, OnOk, OnErr}
 use Rattle.std.specs.Prelude.{Ok as ResultOk, Err as ResultErr}
-use Rattle.std.proofs.lemmas.Bool.{and_from, and_left, both_ways, cases_eq}
+use Rattle.std.proofs.lemmas.Bool.{and_from, and_left, both_ways, cases_eq, lt-ltb}
+use Rattle.std.proofs.lemmas.List.Folds.{list_any_at}
+use Rattle.std.proofs.lemmas.List.FromFn.{get_or-map-range_with_len, length-map-range_with_len}
 use Rattle.std.proofs.lemmas.List.{reverse-append, get_or-set_same, get_or-set_other, length-set}
+use Rattle.pipe_base.specs.declared.name.LinkId.{LinkId}
 use Rattle.pipe_base.specs.declared.name.NodeId.{NodeId}
 use Rattle.pipe_base.specs.declared.packet.Packet.{Packet}
 use Rattle.pipe_base.specs.declared.step.Outcome.{Outcome}
-use Rattle.pipe_base.specs.declared.name.Ts.{Ts}
-use Rattle.pipe_base.specs.declared.step.Outcome.TheVariants.{Ok, ClockEnd, Crashed}
+use Rattle.pipe_base.specs.declared.step.Outcome.TheVariants.{Ok, ClockEnd, Crashed, Ignored}
 use Rattle.pipe_base.specs.Clock.{stamp_at}
 use Rattle.pipe_base.specs.Limits.{last_stamp}
-use Rattle.pipe_base.specs.Graph.{Graph, head_of}
+use Rattle.pipe_base.specs.Moment.{has_link, is_up}
+use Rattle.pipe_base.proofs.BarrierLaws.{filter-among}
+use Rattle.pipe_base.specs.Graph.{Graph, all_links, head_of, ins_of, is_half, is_host, link_id}
 use Rattle.pipe_model.specs.declared.event.Event.{Event}
 use Rattle.pipe_model.specs.declared.event.Event.TheVariants.{Send, Tick, Take, Crash}
 use Rattle.pipe_model.specs.declared.record.Record.{Record}
 use Rattle.pipe_model.specs.declared.record.Took.{Took}
-use Rattle.pipe_model.specs.Acting.{acts, is_idle, is_own, own}
+use Rattle.pipe_model.specs.Acting.{ComesIn, acts, is_idle, is_own, own}
 use Rattle.pipe_model.specs.declared.record.Took.TheVariants.{Nothing}
 use Rattle.pipe_model.specs.Clock.{next}
 use Rattle.pipe_model.specs.Event.{IsOfGraph, IsBuilt}
 use Rattle.pipe_model.specs.Items.{IsOver, Overfills}
+use Rattle.pipe_model.specs.Moments.{moments_of}
 use Rattle.pipe_model.specs.Outcome.{has_crashed, is_crash_of, item_at, outcome_at, outcome_of, took_at}
 use Rattle.pipe_model.specs.OwnOutcome.{own_outcome}
 use Rattle.pipe_model.specs.Run.{IsHistory, IsNodeStep, IsStep}
 use Rattle.pipe_model.proofs.Own.{own_more, own_same}
 use Rattle.pipe_world.specs.declared.node.Node.{Node}
-use Rattle.pipe_world.specs.declared.work.Work.{Work}
+use Rattle.pipe_world.specs.declared.happen.Work.{Work}
 use Rattle.pipe_world.specs.Node as node
 use Rattle.pipe_world.specs.Queues as queues
 use Rattle.pipe_world.specs.Queues.{IsInPlace}
-use Rattle.pipe_world.specs.Work.{Commits, IsWork, record_of}
-use Rattle.pipe_world.specs.World.{ActsAt, Adds, Keeps, Restores, Stands, is_there, taken_of}
-use Rattle.pipe_world.proofs.NodeSteps.{work_follows, settled}
+use Rattle.pipe_world.specs.Node.{StandsWith, Works, record_of}
+use Rattle.pipe_world.specs.World.{ActsAt, Adds, HasHalf, HasHost, Keeps, Restores, Stands, is_there, taken_of}
 use Rattle.pipe_world.proofs.Passing.{placed, present}
 
 acts_here : (graph : Graph) (id : NodeId) (event : Event) (took : Took) → ActsAt graph id event → acts graph id.0 event took ≡ true
@@ -48,12 +52,13 @@ acts_only graph id (Take link place keep) took n at other = ne_eqb (head_of grap
 acts_only graph id _ took n at other = absurd at
 
 -- what the acting node answers is never that nothing happened
-awake_send : (b : Bool) (next : Ts) → is_idle (if b then Ok else ClockEnd next) ≡ false
-awake_send true next = refl
-awake_send false next = refl
+awake_if : (b : Bool) (o : Outcome) → is_idle o ≡ false → is_idle (if b then Ok else o) ≡ false
+awake_if true o is = refl
+awake_if false o is = is
 
 awake : (graph : Graph) (node : ℕ) (own : List Record) (event : Event) → is_idle (own_outcome graph node own event) ≡ false
-awake graph node own (Send host service now dests) = awake_send (nat_le (stamp_at now.0 (next own)) last_stamp) (record { 0 = next own })
+awake graph node own (Send host service now dests) = awake_if (nat_le (stamp_at now.0 (next own)) last_stamp) (ClockEnd (record { 0 = next own })) refl
+awake graph node own (Take link place keep) = awake_if (is_up (moments_of own) link.0) Ignored refl
 awake graph node own _ = refl
 
 -- no event that is built is a crash
@@ -97,31 +102,48 @@ taken : (idle : Bool) (t : Took) → idle ≡ false → t ≡ (if idle then Noth
 taken true t is = cc
 taken false t is = refl
 
--- the acting node owns a record in which something happened
-owned : (graph : Graph) (id : NodeId) (event : Event) (w : Work) → ActsAt graph id event → is_idle w.step.outcome ≡ false → is_own graph id.0 (record_of event w) ≡ true
-owned graph id event w at busy = and_from (acts graph id.0 event w.took) (not (is_idle w.step.outcome)) (acts_here graph id event w.took at) (ap not busy)
+-- the acting node owns its record
+owned : (graph : Graph) (id : NodeId) (own : List Record) (r : Record) → ActsAt graph id r.event → IsNodeStep graph id.0 own r → is_own graph id.0 r ≡ true
+owned graph id own r at step =
+    let busy : is_idle r.step.outcome ≡ false = ap is_idle step.outcome_is ∙ awake graph id.0 own r.event in
+    and_from (acts graph id.0 r.event r.took) (not (is_idle r.step.outcome)) (acts_here graph id r.event r.took at) (ap not busy)
+
+-- a take is from a link into the acting node
+comes_by : (graph : Graph) (node link : ℕ) → link < length graph.links → node ≡ head_of graph link → has_link link (ins_of graph node) ≡ true
+comes_by graph node link lt at =
+    let all : has_link link (all_links graph) ≡ true =
+    list_any_at (λ (l : LinkId). l.0 == link) (all_links graph) link (link_id 0) (omega (arith, length-map-range_with_len link_id 0 (length graph.links)))
+    (ap (λ (l : LinkId). l.0 == link) (get_or-map-range_with_len link_id 0 (length graph.links) link link (link_id 0) lt (omega arith)) ∙ eq-eqb link link refl) in
+    filter-among (λ (l : LinkId). head_of graph l.0 == node) link (all_links graph)
+    (λ l same. eq-eqb (head_of graph l.0) node (ap (head_of graph) same ∙ sym at)) all
+
+pub comes_in : (graph : Graph) (id : NodeId) (event : Event) → IsOfGraph graph event → ActsAt graph id event → ComesIn graph id.0 event
+comes_in graph id (Take link place keep) names at = comes_by graph id.0 link.0 names at
+comes_in graph id _ names at = tt
+
+-- a sender is a host
+pub sender_is_host : (graph : Graph) (id host : ℕ) → host < graph.hosts → id ≡ host → is_host graph id ≡ true
+sender_is_host graph id host lt at = ap (is_host graph) at ∙ lt-ltb host graph.hosts lt
 
 -- the record of an event that was worked out is what the rules say
-pub worked : (graph : Graph) (id : NodeId) (before mid : Node) (lists : List (List Packet)) (event : Event) (w : Work)
+pub worked : (graph : Graph) (id : NodeId) (lists : List (List Packet)) (event : Event) (w : Work) (past : List Record)
     → IsOfGraph graph event → IsBuilt event → ActsAt graph id event → is_there lists event ≡ true
-    → IsWork graph id.0 before mid event w → w.took ≡ taken_of lists event
-    → (past : List Record) → IsHistory graph past → node.Stands graph id.0 (own graph id.0 past) before → queues.Stand graph lists past → IsStep graph past (record_of event w)
-worked graph id before mid lists event w names built at there work took past run stands waits =
+    → IsNodeStep graph id.0 (own graph id.0 past) (record_of event w) → w.took ≡ taken_of lists event
+    → IsHistory graph past → queues.Stand graph lists past → IsStep graph past (record_of event w)
+worked graph id lists event w past names built at there step took run waits =
     let r : Record = record_of event w in
     let o : List Record = own graph id.0 past in
-    let answer : w.step.outcome ≡ own_outcome graph id.0 o event = work.outcome_is o (sym stands.next_is) in
     let told : own_outcome graph id.0 o event ≡ outcome_of graph past event = outcome_told graph id past lists event run waits names at there in
     let busy : is_idle (outcome_of graph past event) ≡ false = ap is_idle (sym told) ∙ awake graph id.0 o event in
     let others : (n : ℕ) → n ≢ id.0 → is_own graph n r ≡ false = λ n other. and_left (acts graph n event w.took) (not (is_idle w.step.outcome)) (acts_only graph id event w.took n at other) in
-    let follows = work_follows graph id.0 o before mid event w stands work in
     record {
       built = built;
-      outcome_is = answer ∙ told;
+      outcome_is = step.outcome_is ∙ told;
       took_is = took ∙ item_told graph id past lists event waits names at ∙ taken (is_idle (outcome_of graph past event)) (item_at past event) busy;
-      quiet = λ nobody. absurd (both_ways (is_own graph id.0 r) (nobody id.0) (owned graph id event w at (ap is_idle answer ∙ awake graph id.0 o event)));
+      quiet = λ nobody. absurd (both_ways (is_own graph id.0 r) (nobody id.0) (owned graph id o r at step));
       node = λ n is.
           elim (cases_eq n id.0) [
-            | inl same ↦ subst (λ (m : ℕ). IsNodeStep graph m (own graph m past) r) (sym same) follows.rules
+            | inl same ↦ subst (λ (m : ℕ). IsNodeStep graph m (own graph m past) r) (sym same) step
             | inr other ↦ absurd (both_ways (is_own graph n r) (others n other) is)
           ];
     }
@@ -129,19 +151,19 @@ worked graph id before mid lists event w names built at there work took past run
 -- an event at the node that acts
 pub added : (graph : Graph) (id : NodeId) (before mid after : Node) (lists left : List (List Packet)) (event : Event) (w : Work)
     → IsOfGraph graph event → IsBuilt event → ActsAt graph id event → is_there lists event ≡ true
-    → IsWork graph id.0 before mid event w → w.took ≡ taken_of lists event → Commits (record_of event w) w.next.0 mid after
+    → ((o : List Record) → node.Stands graph id.0 o before → Works graph id.0 o (record_of event w) mid) → w.took ≡ taken_of lists event
+    → ((o : List Record) → StandsWith graph id.0 o (record_of event w) mid → ComesIn graph id.0 event → IsNodeStep graph id.0 o (record_of event w) → node.Stands graph id.0 (record_of event w ∷ o) after)
     → ((past : List Record) → queues.Stand graph lists past → queues.Stand graph left (record_of event w ∷ past))
     → Adds graph id.0 before after lists left (record_of event w)
-added graph id before mid after lists left event w names built at there work took commits moved =
+added graph id before mid after lists left event w names built at there works took follows moved =
     let r : Record = record_of event w in
     record {
-      rules = worked graph id before mid lists event w names built at there work took;
+      rules = λ past run stands waits. worked graph id lists event w past names built at there (works (own graph id.0 past) stands).rules took run waits;
       node_stands = λ past stands.
           let o : List Record = own graph id.0 past in
-          let follows = work_follows graph id.0 o before mid event w stands work in
-          let mine : is_own graph id.0 r ≡ true = owned graph id event w at (ap is_idle (work.outcome_is o (sym stands.next_is)) ∙ awake graph id.0 o event) in
-          subst (λ (x : List Record). node.Stands graph id.0 x after) (sym (own_more graph id.0 r past mine))
-          (settled graph id.0 o mid after r w.next.0 follows.stands work.downed_is work.dropped_is follows.next_is commits);
+          let done = works o stands in
+          subst (λ (x : List Record). node.Stands graph id.0 x after) (sym (own_more graph id.0 r past (owned graph id o r at done.rules)))
+          (follows o done.stands (comes_in graph id event names at) done.rules);
       others = λ n other. and_left (acts graph n event w.took) (not (is_idle w.step.outcome)) (acts_only graph id event w.took n at other);
       queues_stand = moved;
     }
@@ -157,6 +179,7 @@ pub passed_by : (graph : Graph) (nodes : List Node) (lists left : List (List Pac
     → ((n : ℕ) → is_own graph n r ≡ false) → IsStep graph past r → queues.Stand graph left (r ∷ past) → Keeps graph nodes left (r ∷ past)
 passed_by graph nodes lists left past r keeps nobody step moved = record {
   is_graph = keeps.is_graph;
+  joined = keeps.joined;
   few_links = keeps.few_links;
   count = keeps.count;
   nodes_are = λ n d lt. subst (λ (o : List Record). node.Stands graph n o (slice_index_or nodes n d)) (sym (own_same graph n r past (nobody n))) (keeps.nodes_are n d lt);
@@ -171,6 +194,7 @@ acted graph nodes lists left past id before after r keeps lt read adds =
     let stands : node.Stands graph id (own graph id past) before = subst (λ (k : Node). node.Stands graph id (own graph id past) k) (sym read) (keeps.nodes_are id before lt) in
     record {
       is_graph = keeps.is_graph;
+      joined = keeps.joined;
       few_links = keeps.few_links;
       count = length-set nodes id after ∙ keeps.count;
       nodes_are = λ n d within.
@@ -193,6 +217,7 @@ refused graph nodes lists left past id before after keeps lt read restores =
     let stands : node.Stands graph id (own graph id past) before = subst (λ (k : Node). node.Stands graph id (own graph id past) k) (sym read) (keeps.nodes_are id before lt) in
     record {
       is_graph = keeps.is_graph;
+      joined = keeps.joined;
       few_links = keeps.few_links;
       count = length-set nodes id after ∙ keeps.count;
       nodes_are = λ n d within.
@@ -209,6 +234,7 @@ refused graph nodes lists left past id before after keeps lt read restores =
 pub moved_queues : (graph : Graph) (nodes : List Node) (lists left : List (List Packet)) (past : List Record) → Keeps graph nodes lists past → queues.Stand graph left past → Keeps graph nodes left past
 moved_queues graph nodes lists left past keeps moved = record {
   is_graph = keeps.is_graph;
+  joined = keeps.joined;
   few_links = keeps.few_links;
   count = keeps.count;
   nodes_are = keeps.nodes_are;
@@ -232,3 +258,16 @@ unchanged graph nodes lists trace new is keeps = subst (λ (past : List Record).
 pub either_way : {T E : Type 0} (result : Result T E) (A B G : Type 0) → OnOk result A → OnErr result B → (A → G) → (B → G) → G
 either_way (ResultOk x) A B G a b f g = f a
 either_way (ResultErr e) A B G a b f g = g b
+
+-- the hosts and halves among what is kept
+pub has_host : (graph : Graph) (nodes : List Node) (lists : List (List Packet)) (past : List Record) (host : ℕ) → Keeps graph nodes lists past → host < graph.hosts → HasHost graph nodes past host
+has_host graph nodes lists past host keeps lt =
+    let within : host < graph.nodes = omega (arith, keeps.is_graph.hosts_in, lt) in
+    record {
+      known = omega (arith, keeps.count, within);
+      is_a_host = lt-ltb host graph.hosts lt;
+      stands = λ d. keeps.nodes_are host d within;
+    }
+
+pub has_half : (graph : Graph) (nodes : List Node) (lists : List (List Packet)) (past : List Record) (half : ℕ) → Keeps graph nodes lists past → half < graph.nodes → is_half graph half ≡ true → HasHalf graph nodes past half
+has_half graph nodes lists past half keeps lt is = record { known = omega (arith, keeps.count, lt); is_a_half = is; stands = λ d. keeps.nodes_are half d lt }

@@ -3,7 +3,8 @@ use Rattle.std.specs.Prelude.{◌≡◌, ◌≢◌, ℕ, ◌<◌, ◌≤◌, nat
 use Rattle.pipe_base.specs.declared.name.NodeId.{NodeId}
 use Rattle.pipe_base.specs.declared.packet.Packet.{Packet}
 use Rattle.pipe_base.specs.declared.step.Outcome.{Outcome}
-use Rattle.pipe_base.specs.Graph.{Graph, IsGraph, head_of}
+use Rattle.pipe_base.specs.Graph.{Graph, IsGraph, head_of, is_half, is_host}
+use Rattle.pipe_base.specs.Reach.{JoinsAllHosts}
 use Rattle.pipe_base.specs.Step.{quiet_step}
 use Rattle.pipe_model.specs.declared.event.Event.{Event}
 use Rattle.pipe_model.specs.declared.event.Event.TheVariants.{Send, Tick, Take, Lose}
@@ -11,6 +12,7 @@ use Rattle.pipe_model.specs.declared.record.Record.{Record}
 use Rattle.pipe_model.specs.declared.record.Took.{Took}
 use Rattle.pipe_model.specs.declared.record.Took.TheVariants.{Nothing}
 use Rattle.pipe_model.specs.Acting.{is_own, own}
+use Rattle.pipe_model.specs.Event.{IsOfGraph}
 use Rattle.pipe_model.specs.Items.{IsOver}
 use Rattle.pipe_model.specs.Outcome.{took_at}
 use Rattle.pipe_model.specs.Run.{IsHistory, IsStep}
@@ -26,6 +28,7 @@ pub record GraphAndTrace : Type 0 where
 -- what is kept is what the rules say after the history, and the history is one
 pub record Keeps (graph : Graph) (nodes : List Node) (lists : List (List Packet)) (past : List Record) : Type 0 where
   pub is_graph : IsGraph graph
+  pub joined : JoinsAllHosts graph
   pub few_links : length graph.links ≤ 1088
   pub count : length nodes ≡ graph.nodes
   pub nodes_are : (n : ℕ) (d : Node) → n < graph.nodes → node.Stands graph n (own graph n past) (slice_index_or nodes n d)
@@ -34,6 +37,18 @@ pub record Keeps (graph : Graph) (nodes : List Node) (lists : List (List Packet)
 
 abbrev pub Stands : Graph → List Node → List (List Packet) → List Record → Type 0
 Stands graph nodes lists trace = Keeps graph nodes lists (reverse trace)
+
+-- among what is kept for nodes is a host, which stands for its own records of the history
+pub record HasHost (graph : Graph) (nodes : List Node) (past : List Record) (host : ℕ) : Type 0 where
+  pub known : host < length nodes
+  pub is_a_host : is_host graph host ≡ true
+  pub stands : (d : Node) → node.Stands graph host (own graph host past) (slice_index_or nodes host d)
+
+-- the same for a half
+pub record HasHalf (graph : Graph) (nodes : List Node) (past : List Record) (half : ℕ) : Type 0 where
+  pub known : half < length nodes
+  pub is_a_half : is_half graph half ≡ true
+  pub stands : (d : Node) → node.Stands graph half (own graph half past) (slice_index_or nodes half d)
 
 -- one record of the event was appended
 pub record AddsEvent (old new : List Record) (event : Event) : Type 0 where
@@ -53,6 +68,13 @@ ActsAt graph id (Send host service now dests) = id.0 ≡ host.0
 ActsAt graph id (Tick n now) = id ≡ n
 ActsAt graph id (Take link place keep) = id.0 ≡ head_of graph link.0
 ActsAt graph id _ = ⊥
+
+-- the node acts in the event, and stands for some records of its own
+pub record IsAt (graph : Graph) (id : NodeId) (event : Event) (k : Node) : Type 0 where
+  pub names : IsOfGraph graph event
+  pub acts : ActsAt graph id event
+  pub own : List Record
+  pub stands : node.Stands graph id.0 own k
 
 -- no node acts in the event
 abbrev pub IsOfNobody : Event → Type 0

@@ -1,50 +1,48 @@
 // One event of the world.
-ghost use Rattle.std.specs.Prelude.{◌≡◌, ◌<◌, ◌≤◌, ◌∷◌, ◌++◌, ℕ, [], IfErr, IfOk, OnOk, OnErr, MatchOption, IfSome, length, true};
+ghost use Rattle.std.specs.Prelude.{◌≡◌, ◌<◌, ◌≤◌, ◌∷◌, ◌++◌, ℕ, List, [], IfErr, IfOk, OnOk, OnErr, MatchOption, IfSome, length, true};
 ghost use Rattle.pipe_base.specs.Graph.{Graph, IsGraph};
 ghost use Rattle.pipe_model.specs.declared.record.Record.{Record};
 ghost use Rattle.pipe_model.specs.Event.{IsOfGraph, IsBuilt};
 ghost use Rattle.pipe_model.specs.Items.{Overfills};
 ghost use Rattle.pipe_world.specs.History.{FullBy};
-ghost use Rattle.pipe_world.specs.Queues.{AreKnown, IsInPlace};
-ghost use Rattle.pipe_world.specs.Work.{IsWork};
-ghost use Rattle.pipe_world.specs.World.{ActsAt, Adds, AddsEvent, IsAsBefore, IsOfNobody, PassesBy, Restores, Stands, WouldOverfill, is_there, quiet_record, taken_of};
+ghost use Rattle.pipe_world.specs.Queues.{IsInPlace};
+ghost use Rattle.pipe_world.specs.Node as kept;
+ghost use Rattle.pipe_world.specs.Node.{Works, record_of};
+ghost use Rattle.pipe_world.specs.World.{ActsAt, Adds, AddsEvent, IsAsBefore, IsAt, IsOfNobody, PassesBy, Restores, Stands, WouldOverfill, is_there, quiet_record, taken_of};
 
 use crate::enter::enter;
 use crate::fault::StepFault;
 use crate::history::History;
-use crate::network::Network;
 use crate::node::Node;
 use crate::queue::Queue;
-use crate::settle::{commit, undo};
-use crate::work::{Work, send_work, take_work, tick_work};
 use pipe_base::{NoMemory, NodeId, Outcome, Step};
 use pipe_model::{Event, Record, Took};
+use pipe_topo::Topology;
 use std::alloc::Global;
 
 /// Appends the record of an event and changes what it changes. On a fault nothing happens.
 pub fn happen(
     alloc: Global,
-    network: &Network,
+    topology: &Topology,
     nodes: &mut [Node],
     queues: &mut [Queue],
     history: &mut History,
     event: Event,
 ) -> Result<(), StepFault>
-    requires stands { Stands network.now nodes.old queues.old history.old }
-    requires event { IsOfGraph network.now event }
+    requires stands { Stands topology.now nodes.old queues.old history.old }
+    requires event { IsOfGraph topology.now event }
     requires built { IsBuilt event }
     ensures ok { OnOk result (AddsEvent history.old history.new event) }
     ensures err { OnErr result (history.new ≡ history.old) }
-    ensures full { IfErr result (λ fault. (items : ℕ) → fault ≡ StepFault.Full items → Overfills network.now history.old event items) }
-    ensures stands { Stands network.now nodes.new queues.new history.new }
+    ensures full { IfErr result (λ fault. (items : ℕ) → fault ≡ StepFault.Full items → Overfills topology.now history.old event items) }
+    ensures stands { Stands topology.now nodes.new queues.new history.new }
 {
     if !is_there(queues, &event) {
         return pass_by(alloc, queues, history, event, Outcome::NoItem);
     }
-    match acting_node(network, &event) {
+    match acting_node(topology, &event) {
         Some(id) => act(
-            alloc,
-            network,
+            topology,
             id,
             &mut nodes[id.0 as usize],
             queues,
@@ -69,17 +67,17 @@ fn is_there(queues: &[Queue], event: &Event) -> bool
 }
 
 /// The node that acts in an event, or None where nobody does.
-fn acting_node(network: &Network, event: &Event) -> Option<NodeId>
-    requires graph { IsGraph network.now }
-    requires event { IsOfGraph network.now event.now }
+fn acting_node(topology: &Topology, event: &Event) -> Option<NodeId>
+    requires graph { IsGraph topology.now }
+    requires event { IsOfGraph topology.now event.now }
     requires built { IsBuilt event.now }
-    ensures acts { MatchOption result (IsOfNobody event.now) (λ id. ActsAt network.now id event.now) }
-    ensures known { IfSome result (λ id. id.0 < network.now.nodes) }
+    ensures acts { MatchOption result (IsOfNobody event.now) (λ id. ActsAt topology.now id event.now) }
+    ensures known { IfSome result (λ id. id.0 < topology.now.nodes) }
 {
     match event {
         Event::Send { host, .. } => Some(NodeId(host.0)),
         Event::Tick { node, .. } => Some(*node),
-        Event::Take { link, .. } => Some(network.topology().head(*link)),
+        Event::Take { link, .. } => Some(topology.head(*link)),
         _ => None,
     }
 }
@@ -113,29 +111,27 @@ fn pass_by(
 
 /// An event at the node that acts in it.
 fn act(
-    alloc: Global,
-    network: &Network,
+    topology: &Topology,
     id: NodeId,
     node: &mut Node,
     queues: &mut [Queue],
     history: &mut History,
     event: Event,
 ) -> Result<(), StepFault>
-    requires event { IsOfGraph network.now event }
+    requires event { IsOfGraph topology.now event }
     requires built { IsBuilt event }
-    requires acts { ActsAt network.now id event }
-    requires node { id.0 < network.now.nodes }
-    requires links { length queues.old ≡ length network.now.links }
-    requires few { length network.now.links ≤ 1088 }
+    requires acts { ActsAt topology.now id event }
+    requires stands { (own : List Record) × kept.Stands topology.now id.0 own node.old }
+    requires links { length queues.old ≡ length topology.now.links }
+    requires few { length topology.now.links ≤ 1088 }
     requires there { is_there queues.old event ≡ true }
-    ensures ok { OnOk result ((r : Record) × (history.new ≡ history.old ++ r ∷ []) × (r.event ≡ event) × Adds network.now id.0 node.old node.new queues.old queues.new r) }
-    ensures err { OnErr result ((history.new ≡ history.old) × Restores network.now id.0 node.old node.new queues.old queues.new) }
-    ensures full { IfErr result (λ fault. (items : ℕ) → fault ≡ StepFault.Full items → WouldOverfill network.now id.0 node.old queues.old history.old event items) }
+    ensures ok { OnOk result ((r : Record) × (history.new ≡ history.old ++ r ∷ []) × (r.event ≡ event) × Adds topology.now id.0 node.old node.new queues.old queues.new r) }
+    ensures err { OnErr result ((history.new ≡ history.old) × Restores topology.now id.0 node.old node.new queues.old queues.new) }
+    ensures full { IfErr result (λ fault. (items : ℕ) → fault ≡ StepFault.Full items → WouldOverfill topology.now id.0 node.old queues.old history.old event items) }
 {
-    let Ok(work) = work_at(alloc, network, id, node, queues, &event) else {
+    let Ok(work) = work_at(node, queues, &event) else {
         return Err(StepFault::NoMemory);
     };
-    let next = work.next;
     let record = Record {
         event,
         took: work.took,
@@ -144,47 +140,55 @@ fn act(
     let at = history.trace().len();
     match enter(queues, history, record) {
         Ok(()) => {
-            commit(node, &history.trace().as_slice()[at], next);
+            node.follow(&history.trace().as_slice()[at]);
             Ok(())
         }
         Err(refused) => {
-            undo(node, &refused.record);
+            node.undo(&refused.record);
             Err(refused.fault)
         }
     }
 }
 
+/// A step that was worked out, and what it took.
+#[derive(Drop)]
+pub struct Work {
+    took: Took,
+    step: Step,
+}
+
 /// Works out the step of the node that acts. Of the node only the message that it holds is changed.
-fn work_at(
-    alloc: Global,
-    network: &Network,
-    id: NodeId,
-    node: &mut Node,
-    queues: &[Queue],
-    event: &Event,
-) -> Result<Work, NoMemory>
-    requires event { IsOfGraph network.now event.now }
-    requires acts { ActsAt network.now id event.now }
-    requires node { id.0 < network.now.nodes }
-    requires links { length queues.now ≡ length network.now.links }
+fn work_at(node: &mut Node, queues: &[Queue], event: &Event) -> Result<Work, NoMemory>
+    requires acts { (graph : Graph) × (id : NodeId) × IsAt graph id event.now node.old }
+    requires links { (graph : Graph) × (length queues.now ≡ length graph.links) × IsOfGraph graph event.now }
     requires there { is_there queues.now event.now ≡ true }
-    ensures work { IfOk result (IsWork network.now id.0 node.old node.new event.now) }
-    ensures known { IfOk result (λ work. AreKnown (length network.now.links) work.step.put) }
+    ensures work { IfOk result (λ work. (graph : Graph) (id : NodeId) (own : List Record) → IsOfGraph graph event.now → ActsAt graph id event.now
+        → kept.Stands graph id.0 own node.old → Works graph id.0 own (record_of event.now work) node.new) }
     ensures took { IfOk result (λ work. work.took ≡ taken_of queues.now event.now) }
     ensures err { OnErr result (node.new ≡ node.old) }
 {
     match event {
-        Event::Send {
-            host,
-            now,
-            dests,
-            ..
-        } => { send_work(alloc, network, *host, node, *now, dests) }
-        Event::Tick { node: at, now } => tick_work(alloc, network, *at, node, *now),
+        Event::Send { now, dests, .. } => Ok(untaken(node.work_send(*now, dests)?)),
+        Event::Tick { now, .. } => Ok(untaken(node.work_tick(*now)?)),
         Event::Take { link, place, .. } => {
             let packet = queues[link.0 as usize].at(*place).try_clone()?;
-            take_work(alloc, network, id, node, *link, packet)
+            let step = node.work_take(*link, &packet)?;
+            let took = Took::Link {
+                link: *link,
+                packet,
+            };
+            Ok(Work { took, step })
         }
         _ => unreachable!(),
+    }
+}
+
+/// The work of a step that takes nothing.
+fn untaken(step: Step) -> Work
+    ensures { result ≡ record { took = Took.Nothing; step = step } }
+{
+    Work {
+        took: Took::Nothing,
+        step,
     }
 }

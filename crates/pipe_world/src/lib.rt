@@ -6,13 +6,9 @@ mod enter;
 mod fault;
 mod happen;
 mod history;
-mod network;
 mod node;
-mod puts;
 mod queue;
 mod queues;
-mod settle;
-mod work;
 mod world;
 
 pub use fault::StepFault;

@@ -1,31 +1,84 @@
-// What is kept for a node.
+// What is kept for a node: a host or a half.
+ghost use Rattle.std.specs.Prelude.{◌≡◌, ◌∷◌, ◌<◌, ◌^◌, ℕ, Bool, List, true, length, IfOk, OnErr};
+ghost use Rattle.pipe_base.specs.declared.message.Service.{Service};
+ghost use Rattle.pipe_base.specs.declared.name.HostId.{HostId};
+ghost use Rattle.pipe_base.specs.Graph.{Graph, ins_of, is_host};
+ghost use Rattle.pipe_base.specs.Moment.{has_link};
+ghost use Rattle.pipe_host.specs.Host.{taken, ticked};
+ghost use Rattle.pipe_model.specs.declared.event.Event.TheVariants.{Send};
+ghost use Rattle.pipe_model.specs.declared.record.Record.{Record as ARecord};
+ghost use Rattle.pipe_model.specs.Acting.{ComesIn};
+ghost use Rattle.pipe_model.specs.Run.{IsNodeStep};
+ghost use Rattle.pipe_world.specs.Node.{Stands, StandsWith, Works};
 
-use pipe_barrier::Registers;
-use pipe_base::{LinkId, NoMemory, Service, Ts};
-use pipe_reorder::Reorder;
-use std::alloc::Global;
+use pipe_base::{DestList, LinkId, NoMemory, NodeId, Packet, Step, Ts};
+use pipe_host::Host;
+use pipe_model::{Record, Took};
+use pipe_switch::Half;
 
-/// A host, or a half of a switch. A half holds no messages.
+/// A host, or a half of a switch.
 #[derive(Drop)]
-pub struct Node {
-    pub registers: Registers,
-    pub next: Ts,
-    pub held: Reorder,
+pub enum Node {
+    Host(Host),
+    Half(Half),
 }
 
 impl Node {
-    ghost use Rattle.std.specs.Prelude.{◌≡◌, ℕ, [], IfOk};
-    ghost use Rattle.pipe_base.specs.Graph.{Graph, ins_of};
-    ghost use Rattle.pipe_world.specs.Node.{Stands};
-
-    /// A node to which nothing has happened.
-    pub fn new(alloc: Global, ins: &[LinkId]) -> Result<Node, NoMemory>
-        ensures { IfOk result (λ node. (graph : Graph) (id : ℕ) → ins.now ≡ ins_of graph id → Stands graph id [] node) }
+    /// Works out a send of a host.
+    pub fn work_send(&self, now: Ts, dests: &DestList) -> Result<Step, NoMemory>
+        requires host { (graph : Graph) × (node : ℕ) × (own : List ARecord) × (is_host graph node ≡ true) × Stands graph node own self.now }
+        requires few { length dests.now < 2 ^ 32 }
+        ensures { IfOk result (λ step. (graph : Graph) (host : HostId) (service : Service) (own : List ARecord) → Stands graph host.0 own self.now
+            → Works graph host.0 own (record { event = Send host service now dests.now; took = Took.Nothing; step = step }) self.now) }
     {
-        Ok(Node {
-            registers: Registers::new(alloc, ins)?,
-            next: Ts(0),
-            held: Reorder::new(alloc, Service::BestEffort),
-        })
+        match self {
+            Node::Host(host) => host.work_send(now, dests),
+            Node::Half(_) => unreachable!(),
+        }
+    }
+
+    /// Works out a tick.
+    pub fn work_tick(&self, now: Ts) -> Result<Step, NoMemory>
+        ensures { IfOk result (λ step. (graph : Graph) (node : NodeId) (own : List ARecord) → Stands graph node.0 own self.now
+            → Works graph node.0 own (ticked node now step) self.now) }
+    {
+        match self {
+            Node::Host(host) => host.work_tick(now),
+            Node::Half(half) => half.work_tick(now),
+        }
+    }
+
+    /// Works out the taking of a packet from a link into the node. Of the node only the message that it holds is changed.
+    pub fn work_take(&mut self, link: LinkId, packet: &Packet) -> Result<Step, NoMemory>
+        ensures ok { IfOk result (λ step. (graph : Graph) (node : ℕ) (own : List ARecord) (place : ℕ) (keep : Bool) → Stands graph node own self.old
+            → has_link link.0 (ins_of graph node) ≡ true → Works graph node own (taken link packet.now place keep step) self.new) }
+        ensures err { OnErr result (self.new ≡ self.old) }
+    {
+        match self {
+            Node::Host(host) => host.work_take(link, packet),
+            Node::Half(half) => half.work_take(link, packet),
+        }
+    }
+
+    /// Takes over the record of a step that was worked out. Takes no memory.
+    pub fn follow(&mut self, record: &Record)
+        ensures { (graph : Graph) (node : ℕ) (own : List ARecord) → StandsWith graph node own «record».now self.old
+            → ComesIn graph node «record».now.event → IsNodeStep graph node own «record».now
+            → Stands graph node («record».now ∷ own) self.new }
+    {
+        match self {
+            Node::Host(host) => host.follow(record),
+            Node::Half(half) => half.follow(record),
+        }
+    }
+
+    /// Gives back what was held for a step that was worked out and is refused. Takes no memory.
+    pub fn undo(&mut self, record: &Record)
+        ensures { (graph : Graph) (node : ℕ) (own : List ARecord) → StandsWith graph node own «record».now self.old
+            → IsNodeStep graph node own «record».now → Stands graph node own self.new }
+    {
+        if let Node::Host(host) = self {
+            host.undo(record);
+        }
     }
 }

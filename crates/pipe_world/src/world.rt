@@ -1,24 +1,31 @@
 // The world: a network, what its nodes keep, what waits, and all that happened.
-ghost use Rattle.std.specs.Prelude.{◌≡◌, ◌<◌, ◌≤◌, ℕ, [], IfErr, IfOk, OnOk, OnErr, length, min, reverse, slice_index_or};
+ghost use Rattle.std.specs.Prelude.{◌≡◌, ◌<◌, ◌≤◌, ℕ, List, [], true, IfErr, IfOk, OnOk, OnErr, length, min, reverse, slice_index_or};
 ghost use Rattle.pipe_model.specs.Event.{IsOfGraph, IsBuilt};
+ghost use Rattle.pipe_base.specs.Graph.{Graph, IsGraph, is_half};
 ghost use Rattle.pipe_base.specs.Limits.{most_items};
+ghost use Rattle.pipe_base.specs.Reach.{JoinsAllHosts};
 ghost use Rattle.pipe_model.specs.Items.{Overfills, items_of};
 ghost use Rattle.pipe_model.specs.Order.{AreLogsOrdered, AreStampsCausal, IsGenuine};
 ghost use Rattle.pipe_model.specs.Run.{IsHistory};
 ghost use Rattle.pipe_model.specs.Waiting.{waiting_on};
 ghost use Rattle.pipe_world.specs.declared.node.Node.{Node};
+ghost use Rattle.pipe_model.specs.declared.record.Record.{Record};
+ghost use Rattle.pipe_model.specs.Acting.{own};
+ghost use Rattle.pipe_host.specs.Host as hosts;
+ghost use Rattle.pipe_switch.specs.Half as halves;
 ghost use Rattle.pipe_world.specs.Node as node;
-ghost use Rattle.pipe_world.specs.World.{Extends};
+ghost use Rattle.pipe_world.specs.World.{Extends, HasHalf, HasHost};
 
 use crate::fault::StepFault;
 use crate::happen::happen;
 use crate::history::History;
-use crate::network::Network;
 use crate::node::Node;
 use crate::queue::Queue;
 use crate::queues::empty_queues;
-use pipe_base::{LinkId, NoMemory, NodeId};
+use pipe_base::{HostId, LinkId, NoMemory, NodeId};
+use pipe_host::Host;
 use pipe_model::{Event, Trace};
+use pipe_switch::Half;
 use pipe_topo::Topology;
 use std::alloc::Global;
 use std::marker::Model;
@@ -27,7 +34,7 @@ use std::marker::Model;
 #[derive(Drop)]
 pub struct World {
     alloc: Global,
-    network: Network,
+    topology: Topology,
     nodes: Vec<Node>,
     queues: Vec<Queue>,
     history: History,
@@ -38,9 +45,9 @@ impl Model for World {
 
     ghost Value = { GraphAndTrace };
 
-    ghost view = { λ w. record { graph = w.network; trace = w.history } };
+    ghost view = { λ w. record { graph = w.topology; trace = w.history } };
 
-    ghost invariant = { λ w. Stands w.network w.nodes.items w.queues.items w.history };
+    ghost invariant = { λ w. Stands w.topology w.nodes.items w.queues.items w.history };
 }
 
 impl World {
@@ -48,12 +55,11 @@ impl World {
     pub fn new(alloc: Global, topology: Topology) -> Result<World, NoMemory>
         ensures { IfOk result (λ world. world ≡ record { graph = topology; trace = [] }) }
     {
-        let network = Network::new(alloc, topology)?;
-        let nodes = fresh_nodes(alloc, network.topology())?;
-        let queues = empty_queues(alloc, network.topology().links())?;
+        let nodes = fresh_nodes(alloc, &topology)?;
+        let queues = empty_queues(alloc, topology.links())?;
         Ok(World {
             alloc,
-            network,
+            topology,
             nodes,
             queues,
             history: History::new(alloc),
@@ -70,7 +76,7 @@ impl World {
     {
         happen(
             self.alloc,
-            &self.network,
+            &self.topology,
             &mut self.nodes,
             &mut self.queues,
             &mut self.history,
@@ -82,6 +88,7 @@ impl World {
     pub fn trace(&self) -> &Trace
         ensures trace { result.now ≡ self.now.trace }
         ensures within { items_of self.now.trace ≤ most_items }
+        ensures joined { JoinsAllHosts self.now.graph }
         ensures history { IsHistory self.now.graph (reverse self.now.trace) }
         ensures ordered { AreLogsOrdered self.now.graph (reverse self.now.trace) }
         ensures causal { AreStampsCausal self.now.graph (reverse self.now.trace) }
@@ -105,7 +112,24 @@ impl World {
     pub fn topology(&self) -> &Topology
         ensures { result.now ≡ self.now.graph }
     {
-        self.network.topology()
+        &self.topology
+    }
+
+    /// A host, as it stands after all that happened.
+    pub fn host(&self, host: HostId) -> &Host
+        requires { host.0 < self.now.graph.hosts }
+        ensures { hosts.Stands self.now.graph host.0 (own self.now.graph host.0 (reverse self.now.trace)) result.now }
+    {
+        host_in(&self.nodes, host)
+    }
+
+    /// A half of a switch, as it stands after all that happened.
+    pub fn half(&self, node: NodeId) -> &Half
+        requires node { node.0 < self.now.graph.nodes }
+        requires half { is_half self.now.graph node.0 ≡ true }
+        ensures { halves.Stands self.now.graph node.0 (own self.now.graph node.0 (reverse self.now.trace)) result.now }
+    {
+        half_in(&self.nodes, node)
     }
 
     /// How many packets and control messages were put so far.
@@ -124,6 +148,26 @@ impl World {
     }
 }
 
+fn host_in(nodes: &[Node], host: HostId) -> &Host
+    requires { (graph : Graph) × (past : List Record) × HasHost graph nodes.now past host.0 }
+    ensures { (graph : Graph) (past : List Record) → HasHost graph nodes.now past host.0 → hosts.Stands graph host.0 (own graph host.0 past) result.now }
+{
+    match &nodes[usize::from(host.0)] {
+        Node::Host(host) => host,
+        Node::Half(_) => unreachable!(),
+    }
+}
+
+fn half_in(nodes: &[Node], node: NodeId) -> &Half
+    requires { (graph : Graph) × (past : List Record) × HasHalf graph nodes.now past node.0 }
+    ensures { (graph : Graph) (past : List Record) → HasHalf graph nodes.now past node.0 → halves.Stands graph node.0 (own graph node.0 past) result.now }
+{
+    match &nodes[usize::from(node.0)] {
+        Node::Host(_) => unreachable!(),
+        Node::Half(half) => half,
+    }
+}
+
 fn waiting_in(queues: &[Queue], link: LinkId) -> u32
     requires { link.0 < length queues.now }
     ensures { result ≡ min (length (slice_index_or queues.now link.0 [])) 4294967295 }
@@ -133,12 +177,24 @@ fn waiting_in(queues: &[Queue], link: LinkId) -> u32
 
 /// A node with its in-links for each number, to which nothing has happened.
 fn fresh_nodes(alloc: Global, topology: &Topology) -> Result<Vec<Node>, NoMemory>
+    ensures graph { OnOk result (IsGraph topology.now) }
     ensures count { IfOk result (λ nodes. length nodes.items ≡ topology.now.nodes) }
     ensures stand { IfOk result (λ nodes. (n : ℕ) (d : Node) → n < topology.now.nodes → node.Stands topology.now n [] (slice_index_or nodes.items n d)) }
 {
     let mut nodes = Vec::new(alloc);
     'nodes: for id in 0..topology.nodes() {
-        nodes.push(Node::new(alloc, topology.ins(NodeId(id)))?)?;
+        nodes.push(fresh_node(alloc, topology, id)?)?;
     }
     Ok(nodes)
+}
+
+fn fresh_node(alloc: Global, topology: &Topology, id: u16) -> Result<Node, NoMemory>
+    requires { id < topology.now.nodes }
+    ensures { IfOk result (node.Stands topology.now id []) }
+{
+    if topology.is_host(NodeId(id)) {
+        Ok(Node::Host(Host::new(alloc, topology, HostId(id))?))
+    } else {
+        Ok(Node::Half(Half::new(alloc, topology, NodeId(id))?))
+    }
 }

@@ -18,7 +18,7 @@ use Rattle.pipe_world.proofs.happen.happen.Goals as goal
 
 pub returns-then-not-is_there-clause-stands : goal.returns-then-not-is_there-clause-stands
 returns-then-not-is_there-clause-stands c =
-    let graph = c.args.network.now in
+    let graph = c.args.topology.now in
     let past : List Record = reverse c.args.history.now in
     let r : Record = quiet_record c.args.event NoItem in
     let absent = sym c.is_there.ensures ∙ c.if-not-is_there.true in
@@ -36,7 +36,7 @@ returns-then-not-is_there-clause-stands c =
 
 pub returns-in-Some-clause-stands : goal.returns-in-Some-clause-stands
 returns-in-Some-clause-stands c =
-    let graph = c.args.network.now in
+    let graph = c.args.topology.now in
     let past : List Record = reverse c.args.history.now in
     let id : ℕ = c.in-Some.id.0 in
     let before : Node = slice_index_or c.args.nodes.now id c.index-nodes-id.result in
@@ -55,7 +55,7 @@ returns-in-Some-clause-stands c =
 
 pub returns-in-None-clause-stands : goal.returns-in-None-clause-stands
 returns-in-None-clause-stands c =
-    let graph = c.args.network.now in
+    let graph = c.args.topology.now in
     let past : List Record = reverse c.args.history.now in
     let r : Record = quiet_record c.args.event Ok in
     let there = sym c.is_there.ensures ∙ c.if-not-is_there.false in
@@ -73,7 +73,7 @@ returns-in-None-clause-stands c =
 
 pub returns-then-not-is_there-clause-full : goal.returns-then-not-is_there-clause-full
 returns-then-not-is_there-clause-full c =
-    let graph = c.args.network.now in
+    let graph = c.args.topology.now in
     let past : List Record = reverse c.args.history.now in
     let r : Record = quiet_record c.args.event NoItem in
     let absent = sym c.is_there.ensures ∙ c.if-not-is_there.true in
@@ -84,7 +84,7 @@ returns-then-not-is_there-clause-full c =
 
 pub returns-in-Some-clause-full : goal.returns-in-Some-clause-full
 returns-in-Some-clause-full c =
-    let graph = c.args.network.now in
+    let graph = c.args.topology.now in
     let past : List Record = reverse c.args.history.now in
     let id : ℕ = c.in-Some.id.0 in
     let before : Node = slice_index_or c.args.nodes.now id c.index-nodes-id.result in
@@ -102,7 +102,7 @@ returns-in-Some-clause-full c =
 
 pub returns-in-None-clause-full : goal.returns-in-None-clause-full
 returns-in-None-clause-full c =
-    let graph = c.args.network.now in
+    let graph = c.args.topology.now in
     let past : List Record = reverse c.args.history.now in
     let r : Record = quiet_record c.args.event Ok in
     let there = sym c.is_there.ensures ∙ c.if-not-is_there.false in
@@ -110,3 +110,9 @@ returns-in-None-clause-full c =
     (λ fault full items is. overfills graph c.args.history.now r c.args.event items c.requires.stands.rules
     (loss_step graph past c.args.queues.now c.args.event c.requires.stands.queues_are c.requires.event c.requires.built c.in-None.ensures.acts there) refl (full items is))
     c.pass_by-in-None.ensures.full
+
+pub act-requires-clause-stands : goal.act-requires-clause-stands
+act-requires-clause-stands c =
+    let graph = c.args.topology.now in
+    let id : ℕ = c.in-Some.id.0 in
+    (own graph id (reverse c.args.history.now), c.requires.stands.nodes_are id c.index-nodes-id.result c.in-Some.ensures.known)

@@ -9,17 +9,17 @@ use Rattle.pipe_world.proofs.world.World.into_trace.Goals as goal
 pub returns-clause-ordered : goal.returns-clause-ordered
 returns-clause-ordered c =
     subst (λ (v : GraphAndTrace). AreLogsOrdered v.graph (reverse c.into_trace.result)) c.self.view_is
-    (subst (λ (t : List Record). AreLogsOrdered c.self.inside.network (reverse t)) (sym c.into_trace.ensures.trace)
-    (run_ordered c.self.inside.network (reverse c.self.inside.history) c.self.invariant.rules))
+    (subst (λ (t : List Record). AreLogsOrdered c.self.inside.topology (reverse t)) (sym c.into_trace.ensures.trace)
+    (run_ordered c.self.inside.topology (reverse c.self.inside.history) c.self.invariant.rules))
 
 pub returns-clause-causal : goal.returns-clause-causal
 returns-clause-causal c =
     subst (λ (v : GraphAndTrace). AreStampsCausal v.graph (reverse c.into_trace.result)) c.self.view_is
-    (subst (λ (t : List Record). AreStampsCausal c.self.inside.network (reverse t)) (sym c.into_trace.ensures.trace)
-    (run_causal c.self.inside.network (reverse c.self.inside.history) c.self.invariant.rules))
+    (subst (λ (t : List Record). AreStampsCausal c.self.inside.topology (reverse t)) (sym c.into_trace.ensures.trace)
+    (run_causal c.self.inside.topology (reverse c.self.inside.history) c.self.invariant.rules))
 
 pub returns-clause-genuine : goal.returns-clause-genuine
 returns-clause-genuine c =
     subst (λ (v : GraphAndTrace). IsGenuine v.graph (reverse c.into_trace.result)) c.self.view_is
-    (subst (λ (t : List Record). IsGenuine c.self.inside.network (reverse t)) (sym c.into_trace.ensures.trace)
-    (run_genuine c.self.inside.network (reverse c.self.inside.history) c.self.invariant.rules))
+    (subst (λ (t : List Record). IsGenuine c.self.inside.topology (reverse t)) (sym c.into_trace.ensures.trace)
+    (run_genuine c.self.inside.topology (reverse c.self.inside.history) c.self.invariant.rules))

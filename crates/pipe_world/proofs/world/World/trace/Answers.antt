@@ -1,4 +1,5 @@
 use Rattle.std.proofs.Common.{reverse, subst}
+use Rattle.pipe_base.specs.Reach.{JoinsAllHosts}
 use Rattle.pipe_model.specs.Order.{AreLogsOrdered, AreStampsCausal, IsGenuine}
 use Rattle.pipe_model_net.proofs.Genuine.{run_genuine}
 use Rattle.pipe_world.specs.World.{GraphAndTrace}
@@ -8,14 +9,17 @@ use Rattle.pipe_world.proofs.world.World.trace.Goals as goal
 pub returns-clause-ordered : goal.returns-clause-ordered
 returns-clause-ordered c =
     subst (λ (v : GraphAndTrace). AreLogsOrdered v.graph (reverse v.trace)) c.self.view_is
-    (run_ordered c.self.inside.network (reverse c.self.inside.history) c.self.invariant.rules)
+    (run_ordered c.self.inside.topology (reverse c.self.inside.history) c.self.invariant.rules)
 
 pub returns-clause-causal : goal.returns-clause-causal
 returns-clause-causal c =
     subst (λ (v : GraphAndTrace). AreStampsCausal v.graph (reverse v.trace)) c.self.view_is
-    (run_causal c.self.inside.network (reverse c.self.inside.history) c.self.invariant.rules)
+    (run_causal c.self.inside.topology (reverse c.self.inside.history) c.self.invariant.rules)
 
 pub returns-clause-genuine : goal.returns-clause-genuine
 returns-clause-genuine c =
     subst (λ (v : GraphAndTrace). IsGenuine v.graph (reverse v.trace)) c.self.view_is
-    (run_genuine c.self.inside.network (reverse c.self.inside.history) c.self.invariant.rules)
+    (run_genuine c.self.inside.topology (reverse c.self.inside.history) c.self.invariant.rules)
+
+pub returns-clause-joined : goal.returns-clause-joined
+returns-clause-joined c = subst (λ (v : GraphAndTrace). JoinsAllHosts v.graph) c.self.view_is c.self.invariant.joined

@@ -1,0 +1,140 @@
+-- What a node puts in a step: few items, on links of the graph.
+use Rattle.std.proofs.Common.{◌≡◌, ℕ, zero, suc, ◌+◌, ◌<◌, ◌≤◌, ◌==◌, ◌%◌, Bool, true, false, if◌then◌else◌, List, [], ◌∷◌, ◌++◌, length, map, filter, Option, None, Some, sym, subst, ap, arith, length-append}
+use Rattle.std.specs.List.{All}
+use Rattle.std.specs.Prelude.{IfSome, slice_get}
+use Rattle.std.proofs.lemmas.List.{length-map}
+use Rattle.std.proofs.lemmas.List.Elements.{All-nil, All-cons, All-append, All-filter, All-head, All-map, All-tail}
+use Rattle.std.proofs.lemmas.List.FromFn.{length-map-range_with_len}
+use Rattle.std.proofs.lemmas.List.Sums.{count_by-le-length, length-filter}
+use Rattle.pipe_base.specs.declared.name.HostId.{HostId}
+use Rattle.pipe_base.specs.declared.name.LinkId.{LinkId}
+use Rattle.pipe_base.specs.declared.name.Ts.{Ts}
+use Rattle.pipe_base.specs.declared.packet.Packet.{Packet}
+use Rattle.pipe_base.specs.Graph.{Graph, all_links, is_host, link_id, outs_of, tail_of}
+use Rattle.pipe_base.specs.Limits.{most_receivers}
+use Rattle.pipe_base.specs.Packets.{Fields, beacon, forwarded, message_to}
+use Rattle.pipe_base.specs.ShortestRoute.{begins_shortest, firsts_of, in_turn, not_dropped, route}
+use Rattle.pipe_base.specs.Ways.{on_way, routed}
+use Rattle.pipe_model.specs.declared.event.Event.{Event}
+use Rattle.pipe_model.specs.declared.event.Event.TheVariants.{Send, Tick, Take}
+use Rattle.pipe_model.specs.declared.record.Record.{Record}
+use Rattle.pipe_model.specs.Duties.{beacons, beacons_of, fields, owed, owed_by_send, owed_by_take, owed_of}
+use Rattle.pipe_model.specs.Event.{IsOfGraph}
+use Rattle.pipe_model.specs.Items.{items_in}
+use Rattle.pipe_model.specs.Moments.{known_drops, received}
+use Rattle.pipe_model.specs.Run.{IsNodeStep}
+use Rattle.pipe_paths.proofs.RouteLaws.{outs_all}
+use Rattle.pipe_world.specs.Queues.{AreKnown}
+
+-- ---- few items
+
+on_way_few : (way : Option LinkId) (p : Packet) (puts : List (LinkId × Packet)) → length (on_way way p puts) ≤ length puts + 1
+on_way_few None p puts = omega arith
+on_way_few (Some l) p puts = omega arith
+
+routed_few : (way : ℕ → ℕ → Option LinkId) (ps : List Packet) → length (routed way ps) ≤ length ps
+routed_few way [] = omega arith
+routed_few way (p ∷ ps) = omega (arith, on_way_few (way p.src.0 p.dst.0) p (routed way ps), routed_few way ps)
+
+sent_few : (src : HostId) (f : Fields) (dests : List (HostId × List ℕ)) (stamp : Option Ts) → length dests ≤ most_receivers → length (owed_by_send src f dests stamp) ≤ most_receivers
+sent_few src f dests None few = omega arith
+sent_few src f dests (Some ts) few = omega (arith, length-map dests (message_to src ts f))
+
+one_few : (t : Bool) (p : Packet) → length (if t then p ∷ [] else []) ≤ most_receivers
+one_few true p = omega arith
+one_few false p = omega arith
+
+passed_few : (graph : Graph) (node : ℕ) (f : Fields) (received : Option (ℕ × Packet)) → length (owed_by_take graph node f received) ≤ most_receivers
+passed_few graph node f None = omega arith
+passed_few graph node f (Some q) = one_few _ (forwarded f q.1)
+
+-- a node owes no more packets that are to find a way than a scattering has receivers
+owed_few : (graph : Graph) (node : ℕ) (f : Fields) (event : Event) (stamp : Option Ts) (received : Option (ℕ × Packet)) → IsOfGraph graph event
+    → length (owed_of graph node f event stamp received) ≤ most_receivers
+owed_few graph node f (Send host service now dests) stamp received names = sent_few host f dests stamp names.receivers.few
+owed_few graph node f (Take link place keep) stamp received names = passed_few graph node f received
+owed_few graph node f _ stamp received names = omega arith
+
+filter_few : (test : LinkId → Bool) (ls : List LinkId) → length (filter test ls) ≤ length ls
+filter_few test ls = omega (arith, length-filter test ls, count_by-le-length test ls)
+
+tick_few : (graph : Graph) (node : ℕ) (dropped : List LinkId) (f : Fields)
+    → length {A = LinkId × Packet} (map (λ (l : LinkId). (l, beacon f)) (filter (λ (l : LinkId). not_dropped dropped l.0) (outs_of graph node))) ≤ length graph.links
+tick_few graph node dropped f =
+    omega (
+      arith,
+      length-map {B = LinkId × Packet} (filter (λ (l : LinkId). not_dropped dropped l.0) (outs_of graph node)) (λ (l : LinkId). (l, beacon f)),
+      filter_few (λ (l : LinkId). not_dropped dropped l.0) (outs_of graph node),
+      filter_few (λ (l : LinkId). tail_of graph l.0 == node) (all_links graph),
+      length-map-range_with_len link_id 0 (length graph.links),
+    )
+
+-- at most a beacon for each link
+beacons_few : (graph : Graph) (node : ℕ) (dropped : List LinkId) (f : Fields) (event : Event) → length (beacons_of graph node dropped f event) ≤ length graph.links
+beacons_few graph node dropped f (Tick n now) = tick_few graph node dropped f
+beacons_few graph node dropped f _ = omega arith
+
+pub items_few : (graph : Graph) (node : ℕ) (own : List Record) (r : Record) → IsOfGraph graph r.event → IsNodeStep graph node own r
+    → items_in r ≤ most_receivers + length graph.links
+items_few graph node own r names step =
+    let way : ℕ → ℕ → Option LinkId = route graph (known_drops (r ∷ own)) node in
+    omega (
+      arith,
+      ap length step.put_is,
+      ap length step.control_is,
+      length-append (routed way (owed graph node own r)) (beacons graph node own r),
+      routed_few way (owed graph node own r),
+      owed_few graph node (fields graph node own r) r.event r.step.stamped (received own r) names,
+      beacons_few graph node (known_drops (r ∷ own)) (fields graph node own r) r.event,
+    )
+
+-- ---- on links of the graph
+
+abbrev Known : Graph → LinkId → Type 0
+Known graph l = l.0 < length graph.links
+
+got_all : (P : LinkId → Type 0) (ls : List LinkId) (n : ℕ) → All P ls → IfSome (slice_get ls n) P
+got_all P [] n all = tt
+got_all P (l ∷ ls) zero all = All-head P l ls all
+got_all P (l ∷ ls) (suc n) all = got_all P ls n (All-tail P l ls all)
+
+turn_all : (P : LinkId → Type 0) (ls : List LinkId) (turn : ℕ) → All P ls → IfSome (in_turn ls turn) P
+turn_all P [] turn all = tt
+turn_all P (l ∷ ls) turn all = got_all P (l ∷ ls) (turn % length (l ∷ ls)) all
+
+way_all : (t : Bool) (P : LinkId → Type 0) (ls : List LinkId) (turn : ℕ) → All P ls → IfSome (if t then in_turn ls turn else None) P
+way_all true P ls turn all = turn_all P ls turn all
+way_all false P ls turn all = tt
+
+outs_known : (graph : Graph) (node : ℕ) → All (Known graph) (outs_of graph node)
+outs_known graph node = outs_all graph node (Known graph) (λ l lt begins. lt)
+
+-- a route goes along a link of the graph
+route_known : (graph : Graph) (dropped : List LinkId) (node src dst : ℕ) → IfSome (route graph dropped node src dst) (Known graph)
+route_known graph dropped node src dst =
+    way_all (is_host graph dst) (Known graph) (firsts_of graph (not_dropped dropped) node dst) (src + dst)
+    (All-filter (λ (l : LinkId). begins_shortest graph (not_dropped dropped) node dst l.0) (Known graph) (outs_of graph node) (outs_known graph node))
+
+on_way_known : (graph : Graph) (way : Option LinkId) (p : Packet) (puts : List (LinkId × Packet)) → IfSome way (Known graph) → AreKnown (length graph.links) puts
+    → AreKnown (length graph.links) (on_way way p puts)
+on_way_known graph None p puts here rest = rest
+on_way_known graph (Some l) p puts here rest = All-cons (λ (q : LinkId × Packet). q.0.0 < length graph.links) (l, p) puts here rest
+
+routed_known : (graph : Graph) (dropped : List LinkId) (node : ℕ) (ps : List Packet) → AreKnown (length graph.links) (routed (route graph dropped node) ps)
+routed_known graph dropped node [] = All-nil (λ (q : LinkId × Packet). q.0.0 < length graph.links)
+routed_known graph dropped node (p ∷ ps) =
+    on_way_known graph (route graph dropped node p.src.0 p.dst.0) p (routed (route graph dropped node) ps) (route_known graph dropped node p.src.0 p.dst.0)
+    (routed_known graph dropped node ps)
+
+beacons_known : (graph : Graph) (node : ℕ) (dropped : List LinkId) (f : Fields) (event : Event) → AreKnown (length graph.links) (beacons_of graph node dropped f event)
+beacons_known graph node dropped f (Tick n now) =
+    All-map (λ (q : LinkId × Packet). q.0.0 < length graph.links) (λ (l : LinkId). (l, beacon f)) (filter (λ (l : LinkId). not_dropped dropped l.0) (outs_of graph node))
+    (All-filter (λ (l : LinkId). not_dropped dropped l.0) (Known graph) (outs_of graph node) (outs_known graph node))
+beacons_known graph node dropped f _ = All-nil (λ (q : LinkId × Packet). q.0.0 < length graph.links)
+
+pub puts_known : (graph : Graph) (node : ℕ) (own : List Record) (r : Record) → IsNodeStep graph node own r → AreKnown (length graph.links) r.step.put
+puts_known graph node own r step =
+    subst (AreKnown (length graph.links)) (sym step.put_is)
+    (All-append (λ (q : LinkId × Packet). q.0.0 < length graph.links) (routed (route graph (known_drops (r ∷ own)) node) (owed graph node own r)) (beacons graph node own r)
+    (routed_known graph (known_drops (r ∷ own)) node (owed graph node own r))
+    (beacons_known graph node (known_drops (r ∷ own)) (fields graph node own r) r.event))

@@ -1,0 +1,24 @@
+use Rattle.std.proofs.Common.{◌≡◌, ℕ, List, [], reverse, refl, sym, subst, ap, ◌∙◌, arith}
+use Rattle.pipe_base.specs.Graph.{Graph}
+use Rattle.pipe_base.specs.Reach.{JoinsAllHosts}
+use Rattle.pipe_model.specs.declared.record.Record.{Record}
+use Rattle.pipe_world.specs.World.{Keeps}
+use Rattle.pipe_world.proofs.world.World.new.Goals as goal
+
+pub invariant_of-result : goal.invariant_of-result
+invariant_of-result c =
+    let graph : Graph = c.args.topology in
+    subst (λ (past : List Record). Keeps graph c.in_ok-nodes.nodes.items c.in_ok-queues.queues.items past) (ap reverse (sym c.new.ensures))
+    (record {
+      is_graph = c.in_ok-nodes.ensures.graph;
+      joined = subst JoinsAllHosts c.topology.view_is c.topology.invariant;
+      few_links = omega (arith, c.links.ensures.value, c.links.ensures.few);
+      count = c.in_ok-nodes.ensures.count;
+      nodes_are = c.in_ok-nodes.ensures.stand;
+      queues_are = record {
+        count = c.in_ok-queues.ensures.count ∙ c.links.ensures.value;
+        whole = λ link. refl;
+        lists_are = λ link lt. c.in_ok-queues.ensures.empty link;
+      };
+      rules = tt;
+    })
