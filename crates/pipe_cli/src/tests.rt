@@ -62,7 +62,7 @@ fn run_on(
     })
 }
 
-static LOGS: [(&str, &str, usize); 8] = [
+static LOGS: [(&str, &str, usize); 9] = [
     ("star 2", NO_LOGS, 0),
     (TWO_HOSTS, TWO_LOGS, 12),
     // The minimum is over all in-links, also one that sent nothing.
@@ -101,6 +101,13 @@ static LOGS: [(&str, &str, usize); 8] = [
          tick s0.up 0\ntake 4 0\ntake 4 0\ntick s0.down 0\ntake 3 0 keep\ntake 3 0\ntake 3 0",
         TWO_LOGS,
         13,
+    ),
+    // The link from h1, which never spoke, is silent for the patience and goes down, and best effort flows past it.
+    (
+        "star 2 100\nsend h0 best 10 h1=aa\ntick h0 20\ntake 0 0\ntake 0 0\ntick s0.up 50\ntick h0 60\ntake 0 0\n\
+         tick s0.up 150\ntake 4 0\ntake 4 0\ntake 4 0\ntick s0.down 0\ntake 3 0\ntake 3 0\n",
+        "log h0 best 0\nlog h0 reliable 0\nlog h1 best 1\n10 h0 aa\nlog h1 reliable 0\n",
+        14,
     ),
     // What is lost is not logged; an empty body is a dash.
     (

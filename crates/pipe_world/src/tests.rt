@@ -85,6 +85,9 @@ fn told(alloc: Global, record: &Record) -> Result<String, AllocError> {
         write!(text, ", logged {} h{} ", entry.key.ts.0, entry.key.src.0)?;
         tell_body(&mut text, &entry.body)?;
     }
+    for (link, value) in record.step.downed.as_slice() {
+        write!(text, ", down {} {}", link.0, value.0)?;
+    }
     for (link, packet) in record.step.put.as_slice() {
         write!(text, ", put {}", link.0)?;
         tell_packet(&mut text, packet)?;
@@ -96,6 +99,7 @@ fn tell_outcome(text: &mut String, outcome: Outcome) -> Result<(), AllocError> {
     match outcome {
         Outcome::Ok => text.push_str("ok"),
         Outcome::NoItem => text.push_str("noitem"),
+        Outcome::Ignored => text.push_str("ignored"),
         Outcome::ClockEnd { next } => write!(text, "clockend {}", next.0),
         _ => text.push_str("another outcome"),
     }
@@ -133,17 +137,22 @@ fn tell_body(text: &mut String, body: &Body) -> Result<(), AllocError> {
     Ok(())
 }
 
-fn star(rt: &impl Abort, alloc: Global, hosts: u16) -> Result<World, Fail> {
-    let plan = Plan::star(alloc, hosts, Ts(1000))?;
+fn star(rt: &impl Abort, alloc: Global, patience: u64) -> Result<World, Fail> {
+    let plan = Plan::star(alloc, 2, Ts(patience))?;
     assert!(rt; plan.has_ends());
     assert!(rt; plan.levels.len() < 1000);
     assert!(rt; plan.cables.len() < 1000);
     Ok(World::new(alloc, Topology::build(alloc, &plan)?)?)
 }
 
-/// Plays the events on a star of two hosts and compares what each record tells.
-fn compare(rt: &impl Abort, alloc: Global, schedule: &[(Act, &str)]) -> Result<World, Fail> {
-    let mut world = star(rt, alloc, 2)?;
+/// Plays the events on a star of two hosts with this patience and compares what each record tells.
+fn compare(
+    rt: &impl Abort,
+    alloc: Global,
+    patience: u64,
+    schedule: &[(Act, &str)],
+) -> Result<World, Fail> {
+    let mut world = star(rt, alloc, patience)?;
     for (act, _) in schedule {
         play(rt, alloc, &mut world, *act)?;
     }
@@ -166,6 +175,7 @@ fn a_message_is_logged_by_the_beacon_that_passes_it_and_its_repeat_is_not(
     let world = compare(
         &rt,
         rt.alloc(),
+        1000,
         &[
             (
                 Act::Send(0, 10, 1, 0x68),
@@ -212,6 +222,7 @@ fn every_outcome_and_every_fate(rt: HostRuntime) -> Result<(), Fail> {
     compare(
         &rt,
         rt.alloc(),
+        1000,
         &[
             // The last stamp; then the clock is at its end, also for a reading of 0.
             (
@@ -277,5 +288,31 @@ fn every_outcome_and_every_fate(rt: HostRuntime) -> Result<(), Fail> {
             (Act::Take(1, 0), "noitem"),
         ],
     )?;
+    Ok(())
+}
+
+// The link from h1 is silent for the patience. Then the best-effort barrier waits for it no more; the commit barrier does.
+#[test]
+fn a_silent_link_goes_down(rt: HostRuntime) -> Result<(), Fail> {
+    let world = compare(
+        &rt,
+        rt.alloc(),
+        100,
+        &[
+            (Act::Tick(0, 60), "ok, put 0 beacon 60 60"),
+            (Act::Take(0, 0), "ok, took 0 beacon 60 60"),
+            (Act::Tick(2, 50), "ok, put 4 beacon 0 0"),
+            (Act::Tick(0, 60), "ok, put 0 beacon 60 60"),
+            (Act::Take(0, 0), "ok, took 0 beacon 60 60"),
+            (Act::Tick(2, 149), "ok, put 4 beacon 0 0"),
+            (Act::Tick(2, 150), "ok, down 2 0, put 4 beacon 60 0"),
+            (Act::Tick(1, 70), "ok, put 2 beacon 70 70"),
+            (Act::Take(2, 0), "ignored, took 2 beacon 70 70"),
+        ],
+    )?;
+    assert!(rt; world.topology().nodes() == 4);
+    assert!(rt; world.topology().is_half(NodeId(2)));
+    let registers = world.half(NodeId(2)).registers();
+    assert_eq!(rt; (registers.be(), registers.commit()), (Ts(60), Ts(0)));
     Ok(())
 }
