@@ -2,10 +2,15 @@
 #![tactic(auto)]
 
 mod bad;
+mod control;
+mod control_bytes;
+mod control_kind;
 mod number;
 mod packet;
 mod packet_bytes;
 
 pub use bad::{Bad, ControlFault};
+pub use control::decode_control;
+pub use control_bytes::{control_len, encode_control};
 pub use packet::{PacketRef, decode, own};
 pub use packet_bytes::encode;
