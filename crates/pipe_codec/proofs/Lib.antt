@@ -1,3 +1,5 @@
+pub mod ControlLaws
+pub mod ItemLaws
 pub mod NumberLaws
 pub mod PacketLaws
 pub mod PutLaws

@@ -1,8 +1,9 @@
 -- A number that is read is the number that was written, and what was written is read again.
 use Rattle.std.proofs.Common.{◌≡◌, ℕ, ◌+◌, ◌^◌, ◌<◌, ◌≤◌, List, [], ◌∷◌, ◌++◌, length, get_or, take, drop, refl, sym, ap, ◌∙◌, inl, inr, arith, zero, suc}
 use Rattle.std.specs.Int.{w16, w64, byte_at, from_be_bytes, to_be_bytes}
+use Rattle.std.proofs.Math.Seq.{take-add}
 use Rattle.std.proofs.lemmas.Bool.{cases_lt}
-use Rattle.std.proofs.lemmas.List.{length-take, length-drop, take-append-drop, get_or-drop, get_or-take, get_or_past}
+use Rattle.std.proofs.lemmas.List.{length-take, length-drop, take-append-drop, get_or-drop, get_or-take, get_or_past, take_all}
 use Rattle.std.proofs.lemmas.Nat.{be_bytes_2, be_bytes_8, from_be_bytes-to_be_bytes_2, from_be_bytes-to_be_bytes_8}
 use Rattle.pipe_codec.specs.Number.{two_bytes, six_bytes, two_at, six_at}
 
@@ -66,3 +67,27 @@ six-again n lt =
 
 pub two-again : (n : ℕ) → n < 2 ^ 16 → from_be_bytes w16 (two_bytes n) ≡ n
 two-again n lt = from_be_bytes-to_be_bytes_2 n lt
+
+-- the front of a list, and a part behind it
+pub take-next : (bytes front field : List ℕ) (n k : ℕ) → front ≡ take n bytes → field ≡ take k (drop n bytes) → front ++ field ≡ take (n + k) bytes
+take-next bytes front field n k front-is field-is = rw (front-is, field-is) (sym (take-add n k bytes))
+
+-- the first two bytes, one by one
+pub first_two : (bytes : List ℕ) → 2 ≤ length bytes → get_or bytes 0 0 ∷ get_or bytes 1 0 ∷ [] ≡ take 2 bytes
+first_two [] le = absurd (omega arith)
+first_two (a ∷ []) le = absurd (omega arith)
+first_two (a ∷ b ∷ bytes) le = refl
+
+-- two bytes that are all
+pub one-read : (bytes : List ℕ) → AreBytes bytes → length bytes ≡ 2 → two_bytes (two_at 0 bytes) ≡ bytes
+one-read bytes are len = two_bytes-two_at 0 bytes are (omega arith) ∙ take_all 2 bytes (omega arith)
+
+-- a name and a time that are all
+pub timed-read : (bytes : List ℕ) → AreBytes bytes → length bytes ≡ 8 → two_bytes (two_at 0 bytes) ++ six_bytes (six_at 2 bytes) ≡ bytes
+timed-read bytes are len =
+    take-next bytes _ _ 2 6 (two_bytes-two_at 0 bytes are (omega arith)) (six_bytes-six_at 2 bytes are (omega arith)) ∙ take_all 8 bytes (omega arith)
+
+-- a name and a count that are all
+pub counted-read : (bytes : List ℕ) → AreBytes bytes → length bytes ≡ 4 → two_bytes (two_at 0 bytes) ++ two_bytes (two_at 2 bytes) ≡ bytes
+counted-read bytes are len =
+    take-next bytes _ _ 2 2 (two_bytes-two_at 0 bytes are (omega arith)) (two_bytes-two_at 2 bytes are (omega arith)) ∙ take_all 4 bytes (omega arith)

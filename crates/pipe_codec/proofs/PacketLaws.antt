@@ -1,7 +1,6 @@
 -- The laws of packets as bytes.
 use Rattle.std.proofs.Common.{◌≡◌, ℕ, zero, suc, ◌+◌, ◌^◌, ◌<◌, ◌≤◌, Bool, true, false, not, ◌&&◌, ltb, leb, eqb, List, [], ◌∷◌, ◌++◌, length, get_or, take, drop, Option, Some, None, refl, sym, ap, subst, ◌∙◌, arith, rules}
 use Rattle.std.specs.Prelude.{slice_get, slice_index}
-use Rattle.std.proofs.Math.Seq.{take-add}
 use Rattle.std.proofs.lemmas.Bool.{and_from, and_parts, leb-true, le-leb, le-ltb, eq-eqb, ne_eqb}
 use Rattle.std.proofs.lemmas.List.{append_assoc, take-append-drop, length-drop, length-append, take_at, drop_at, drop-drop}
 use Rattle.pipe_base.specs.declared.packet.Packet.{Packet}
@@ -12,7 +11,7 @@ use Rattle.pipe_codec.specs.declared.bad.Bad.{Bad}
 use Rattle.pipe_codec.specs.declared.bad.Bad.TheVariants.{Short, Version, Kind, Field, Length}
 use Rattle.pipe_codec.specs.Number.{two_bytes, six_bytes, two_at, six_at}
 use Rattle.pipe_codec.specs.Packet.{fault_at_kind, fault_behind_kind, fields_fit, fits_kind, packet_bytes, packet_code, packet_fault, packet_fields, packet_header, packet_kinds, HasKind, IsPacket, IsSendable}
-use Rattle.pipe_codec.proofs.NumberLaws.{AreBytes, two_bytes-two_at, six_bytes-six_at, two_at-below, six_at-below, two-again, six-again}
+use Rattle.pipe_codec.proofs.NumberLaws.{AreBytes, first_two, take-next, two_bytes-two_at, six_bytes-six_at, two_at-below, six_at-below, two-again, six-again}
 
 -- ---- reading
 
@@ -70,15 +69,6 @@ fault-none kind bytes header fit len =
     let same : eqb (length bytes) (26 + two_at 24 bytes) ≡ true = eq-eqb _ _ (omega (arith, length-drop 26 bytes)) in
     fault-at_kind kind bytes header ∙ rw (fit, same) refl
 
-first_two : (bytes : List ℕ) → 2 ≤ length bytes → get_or bytes 0 0 ∷ get_or bytes 1 0 ∷ [] ≡ take 2 bytes
-first_two [] le = absurd (omega arith)
-first_two (a ∷ []) le = absurd (omega arith)
-first_two (a ∷ b ∷ bytes) le = refl
-
--- one field more
-next : (bytes front field : List ℕ) (n k : ℕ) → front ≡ take n bytes → field ≡ take k (drop n bytes) → front ++ field ≡ take (n + k) bytes
-next bytes front field n k front-is field-is = rw (front-is, field-is) (sym (take-add n k bytes))
-
 -- the header that is read is the header that is spelled
 header-fields : (kind : PacketKind) (bytes : List ℕ) → AreBytes bytes → HasKind kind bytes → length (drop 26 bytes) ≡ two_at 24 bytes
     → packet_header (packet_fields kind bytes) ≡ take 26 bytes
@@ -86,12 +76,12 @@ header-fields kind bytes are header len =
     let long = header.long in
     let kind-is : 1 ∷ packet_code kind ∷ [] ≡ take 2 bytes =
     rw (← header.version, ← header.code) (first_two bytes (omega arith)) in
-    let src = next bytes _ _ 2 2 kind-is (two_bytes-two_at 2 bytes are (omega arith)) in
-    let dst = next bytes _ _ 4 2 src (two_bytes-two_at 4 bytes are (omega arith)) in
-    let ts = next bytes _ _ 6 6 dst (six_bytes-six_at 6 bytes are (omega arith)) in
-    let be = next bytes _ _ 12 6 ts (six_bytes-six_at 12 bytes are (omega arith)) in
-    let commit = next bytes _ _ 18 6 be (six_bytes-six_at 18 bytes are (omega arith)) in
-    next bytes _ _ 24 2 commit (ap two_bytes len ∙ two_bytes-two_at 24 bytes are (omega arith))
+    let src = take-next bytes _ _ 2 2 kind-is (two_bytes-two_at 2 bytes are (omega arith)) in
+    let dst = take-next bytes _ _ 4 2 src (two_bytes-two_at 4 bytes are (omega arith)) in
+    let ts = take-next bytes _ _ 6 6 dst (six_bytes-six_at 6 bytes are (omega arith)) in
+    let be = take-next bytes _ _ 12 6 ts (six_bytes-six_at 12 bytes are (omega arith)) in
+    let commit = take-next bytes _ _ 18 6 be (six_bytes-six_at 18 bytes are (omega arith)) in
+    take-next bytes _ _ 24 2 commit (ap two_bytes len ∙ two_bytes-two_at 24 bytes are (omega arith))
 
 -- what is read is spelled so
 bytes-fields : (kind : PacketKind) (bytes : List ℕ) → AreBytes bytes → HasKind kind bytes → length (drop 26 bytes) ≡ two_at 24 bytes

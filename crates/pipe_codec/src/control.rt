@@ -17,6 +17,7 @@ use std::alloc::Global;
 /// The bytes before the contents.
 pub const HEADER: usize = 6;
 
+#[tactic(auto, unfolding(crate::specs::Control::control_fault))]
 fn read_kind(bytes: &[u8]) -> Result<ControlKind, Bad>
     ensures { MatchResult result (λ kind. HasControlKind kind bytes.now) (λ bad. control_fault bytes.now ≡ Some bad) }
 {

@@ -1,0 +1,312 @@
+-- The laws of control messages as bytes.
+use Rattle.std.proofs.Common.{◌≡◌, ℕ, ◌+◌, ◌*◌, ◌%◌, ◌^◌, ◌<◌, ◌≤◌, Bool, true, false, not, ◌&&◌, ltb, leb, eqb, List, [], ◌∷◌, ◌++◌, length, take, drop, Option, Some, None, refl, sym, ap, subst, ◌∙◌, arith}
+use Rattle.std.specs.Prelude.{find, slice_index, All}
+use Rattle.std.specs.Int.{w16, w64, from_be_bytes}
+use Rattle.std.specs.List.{flat_map}
+use Rattle.std.proofs.lemmas.Bool.{and_from, and_parts, eq-eqb, eqb-true, le-leb, le-ltb, leb-true, ne_eqb}
+use Rattle.std.proofs.lemmas.List.{length-drop, length-append, take-append-drop}
+use Rattle.std.proofs.lemmas.List.Elements.{All-head, All-tail}
+use Rattle.pipe_base.specs.declared.control.Addressed.{Addressed}
+use Rattle.pipe_base.specs.declared.control.Announced.{Announced}
+use Rattle.pipe_base.specs.declared.control.Control.{Control}
+use Rattle.pipe_base.specs.declared.control.Control.TheVariants as message
+use Rattle.pipe_base.specs.declared.control.To.{To}
+use Rattle.pipe_base.specs.declared.control.To.TheVariants.{Controller, Node}
+use Rattle.pipe_base.specs.declared.name.LinkId.{LinkId}
+use Rattle.pipe_codec.specs.declared.bad.Bad.{Bad}
+use Rattle.pipe_codec.specs.declared.bad.Bad.TheVariants.{Field, Length}
+use Rattle.pipe_codec.specs.declared.control_kind.ControlKind.{ControlKind}
+use Rattle.pipe_codec.specs.declared.control_kind.ControlKind.TheVariants.{Down, Freeze, Notice, Done, DropLinks, Gone}
+use Rattle.pipe_codec.specs.Number.{two_bytes, six_bytes, two_at, six_at}
+use Rattle.pipe_codec.specs.Control.{announced_bytes, contents_bytes, control_bytes, control_code, control_fault, control_header, control_kind, control_kinds, fault_at_control_kind, length_fits, link_bytes, receiver_number, HasContents, HasControlKind, HasTwoByteNames, IsControl, IsReadAs, IsReceiver, IsWhole}
+use Rattle.pipe_codec.proofs.NumberLaws.{AreBytes, AreBytes-drop, counted-read, first_two, one-read, six-again, six_at-below, take-next, timed-read, two-again, two_at-below, two_bytes-two_at}
+use Rattle.pipe_codec.proofs.ItemLaws.{length-items}
+
+-- ---- faults
+
+kind-at_code : (kind : ControlKind) → find (λ k. eqb (control_code k) (control_code kind)) control_kinds ≡ Some kind
+kind-at_code Down = refl
+kind-at_code Freeze = refl
+kind-at_code Notice = refl
+kind-at_code Done = refl
+kind-at_code DropLinks = refl
+kind-at_code Gone = refl
+
+-- behind a header of a kind the fault is that of its length
+fault-at_kind : (kind : ControlKind) (bytes : List ℕ) → HasControlKind kind bytes → control_fault bytes ≡ fault_at_control_kind (Some kind) bytes
+unfolding control_fault
+fault-at_kind kind bytes header =
+    let long : ltb (length bytes) 6 ≡ false = le-ltb _ _ header.long in
+    let version : eqb (slice_index bytes 0) 1 ≡ true = eq-eqb _ _ header.version in
+    let found : find (λ k. eqb (control_code k) (slice_index bytes 1)) control_kinds ≡ Some kind =
+    ap (λ (n : ℕ). find (λ k. eqb (control_code k) n) control_kinds) header.code ∙ kind-at_code kind in
+    rw (long, version, found) refl
+
+pub fault-field : (kind : ControlKind) (bytes : List ℕ) (len : ℕ) → HasControlKind kind bytes → len ≡ two_at 4 bytes
+    → length_fits kind len ≡ false → control_fault bytes ≡ Some Field
+fault-field kind bytes len header len-is unfit =
+    let unfit_at : length_fits kind (two_at 4 bytes) ≡ false = ap (length_fits kind) (sym len-is) ∙ unfit in
+    fault-at_kind kind bytes header ∙ rw unfit_at refl
+
+pub fault-length : (kind : ControlKind) (bytes : List ℕ) (len : ℕ) → HasControlKind kind bytes → len ≡ two_at 4 bytes
+    → length_fits kind len ≡ true → (length bytes ≡ 6 + len → ⊥) → control_fault bytes ≡ Some Length
+fault-length kind bytes len header len-is fit other =
+    let fit_at : length_fits kind (two_at 4 bytes) ≡ true = ap (length_fits kind) (sym len-is) ∙ fit in
+    let unlike : eqb (length bytes) (6 + two_at 4 bytes) ≡ false = ne_eqb _ _ (λ e. other (omega (arith, e))) in
+    fault-at_kind kind bytes header ∙ rw (fit_at, unlike) refl
+
+pub fault-whole : (kind : ControlKind) (bytes : List ℕ) → IsWhole kind bytes → control_fault bytes ≡ None
+fault-whole kind bytes whole =
+    let long = whole.header.long in
+    let len = whole.len in
+    let fit_at : length_fits kind (two_at 4 bytes) ≡ true = ap (length_fits kind) (sym len) ∙ whole.fits in
+    let same : eqb (length bytes) (6 + two_at 4 bytes) ≡ true = eq-eqb _ _ (omega (arith, length-drop 6 bytes)) in
+    fault-at_kind kind bytes whole.header ∙ rw (fit_at, same) refl
+
+-- ---- sizes
+
+pub size-announced : (e : Announced) → length (announced_bytes e) ≡ 8
+size-announced e = refl
+
+pub size-link : (l : LinkId) → length (link_bytes l) ≡ 2
+size-link l = refl
+
+pub length-announced : (list : List Announced) → length (flat_map announced_bytes list) ≡ 8 * length list
+length-announced list = length-items announced_bytes 8 size-announced list
+
+pub length-links : (links : List LinkId) → length (flat_map link_bytes links) ≡ 2 * length links
+length-links links = length-items link_bytes 2 size-link links
+
+fits-contents : (c : Control) → HasContents c → length_fits (control_kind c) (length (contents_bytes c)) ≡ true
+fits-contents (message.Down link value) has = refl
+fits-contents (message.Freeze link) has = refl
+fits-contents (message.Notice list) has =
+    let len = length-announced list in
+    let some = has.0 in
+    let few = has.1 in
+    and_from _ _ (and_from _ _ (eq-eqb _ _ (omega arith)) (le-leb _ _ (omega arith))) (le-leb _ _ (omega arith))
+fits-contents (message.Done host count) has = refl
+fits-contents (message.DropLinks links) has =
+    let len = length-links links in
+    let some = has.0 in
+    let few = has.1 in
+    and_from _ _ (and_from _ _ (eq-eqb _ _ (omega arith)) (le-leb _ _ (omega arith))) (le-leb _ _ (omega arith))
+fits-contents (message.Gone node count) has = refl
+
+pub short-contents : (c : Control) → HasContents c → length (contents_bytes c) < 2 ^ 16
+short-contents (message.Down link value) has = omega arith
+short-contents (message.Freeze link) has = omega arith
+short-contents (message.Notice list) has =
+    let few = has.1 in
+    omega (arith, length-announced list)
+short-contents (message.Done host count) has = omega arith
+short-contents (message.DropLinks links) has =
+    let few = has.1 in
+    omega (arith, length-links links)
+short-contents (message.Gone node count) has = omega arith
+
+-- ---- what is read
+
+-- the contents of each kind are spelled as they were read
+pub read-down : (contents : List ℕ) (link value : ℕ) → AreBytes contents → length_fits Down (length contents) ≡ true
+    → link ≡ two_at 0 contents → value ≡ six_at 2 contents → IsReadAs Down contents (message.Down (record { 0 = link }) (record { 0 = value }))
+read-down contents link value are fit link-is value-is = record {
+  kind_is = refl;
+  spelled = rw (link-is, value-is) (timed-read contents are (eqb-true _ _ fit));
+  fits = rw value-is (six_at-below 2 contents are);
+  names = rw link-is (two_at-below 0 contents are);
+}
+
+pub read-freeze : (contents : List ℕ) (link : ℕ) → AreBytes contents → length_fits Freeze (length contents) ≡ true
+    → link ≡ two_at 0 contents → IsReadAs Freeze contents (message.Freeze (record { 0 = link }))
+read-freeze contents link are fit link-is = record {
+  kind_is = refl;
+  spelled = rw link-is (one-read contents are (eqb-true _ _ fit));
+  fits = tt;
+  names = rw link-is (two_at-below 0 contents are);
+}
+
+pub read-done : (contents : List ℕ) (host count : ℕ) → AreBytes contents → length_fits Done (length contents) ≡ true
+    → host ≡ two_at 0 contents → count ≡ two_at 2 contents → IsReadAs Done contents (message.Done (record { 0 = host }) count)
+read-done contents host count are fit host-is count-is = record {
+  kind_is = refl;
+  spelled = rw (host-is, count-is) (counted-read contents are (eqb-true _ _ fit));
+  fits = tt;
+  names = (rw host-is (two_at-below 0 contents are), rw count-is (two_at-below 2 contents are));
+}
+
+pub read-gone : (contents : List ℕ) (node count : ℕ) → AreBytes contents → length_fits Gone (length contents) ≡ true
+    → node ≡ two_at 0 contents → count ≡ two_at 2 contents → IsReadAs Gone contents (message.Gone (record { 0 = node }) count)
+read-gone contents node count are fit node-is count-is = record {
+  kind_is = refl;
+  spelled = rw (node-is, count-is) (counted-read contents are (eqb-true _ _ fit));
+  fits = tt;
+  names = (rw node-is (two_at-below 0 contents are), rw count-is (two_at-below 2 contents are));
+}
+
+pub read-notice : (contents : List ℕ) (list : List Announced) → length_fits Notice (length contents) ≡ true
+    → flat_map announced_bytes list ≡ contents → All (λ e. e.time.0 < 2 ^ 48) list × All (λ e. e.host.0 < 2 ^ 16) list
+    → IsReadAs Notice contents (message.Notice list)
+read-notice contents list fit spelled each =
+    let sizes = and_parts _ _ fit in
+    let least = leb-true _ _ (and_parts _ _ sizes.0).1 in
+    let most = leb-true _ _ sizes.1 in
+    let len = length-announced list in
+    let same = ap length spelled in
+    record { kind_is = refl; spelled = spelled; fits = (omega arith, omega arith, each.0); names = each.1 }
+
+pub read-drop_links : (contents : List ℕ) (links : List LinkId) → length_fits DropLinks (length contents) ≡ true
+    → flat_map link_bytes links ≡ contents → All (λ l. l.0 < 2 ^ 16) links → IsReadAs DropLinks contents (message.DropLinks links)
+read-drop_links contents links fit spelled each =
+    let sizes = and_parts _ _ fit in
+    let least = leb-true _ _ (and_parts _ _ sizes.0).1 in
+    let most = leb-true _ _ sizes.1 in
+    let len = length-links links in
+    let same = ap length spelled in
+    record { kind_is = refl; spelled = spelled; fits = (omega arith, omega arith); names = each }
+
+header-read : (kind : ControlKind) (bytes : List ℕ) → AreBytes bytes → IsWhole kind bytes
+    → control_header kind (two_at 2 bytes) (length (drop 6 bytes)) ≡ take 6 bytes
+header-read kind bytes are whole =
+    let long = whole.header.long in
+    let kind-is : 1 ∷ control_code kind ∷ [] ≡ take 2 bytes =
+    rw (← whole.header.version, ← whole.header.code) (first_two bytes (omega arith)) in
+    let to = take-next bytes _ _ 2 2 kind-is (two_bytes-two_at 2 bytes are (omega arith)) in
+    take-next bytes _ _ 4 2 to (ap two_bytes whole.len ∙ two_bytes-two_at 4 bytes are (omega arith))
+
+-- what is read is a message, and it is spelled so
+pub read-spells : (kind : ControlKind) (bytes : List ℕ) (to : To) (control : Control) → AreBytes bytes → IsWhole kind bytes
+    → receiver_number to ≡ two_at 2 bytes → IsReceiver to → IsReadAs kind (drop 6 bytes) control
+    → IsControl (record { to = to; control = control }) × (control_bytes (record { to = to; control = control }) ≡ bytes)
+unfolding control_bytes
+read-spells kind bytes to control are whole to-is receiver read =
+    let header : control_header (control_kind control) (receiver_number to) (length (contents_bytes control)) ≡ take 6 bytes =
+    rw (read.kind_is, to-is, read.spelled) (header-read kind bytes are whole) in (
+      record { sendable = record { to = receiver; contents = read.fits }; names = read.names },
+      ap (λ (xs : List ℕ). xs ++ contents_bytes control) header ∙ ap (λ (xs : List ℕ). take 6 bytes ++ xs) read.spelled ∙ take-append-drop 6 bytes,
+    )
+
+-- ---- what is spelled
+
+len-bytes : (a : Addressed) → IsControl a → two_at 4 (control_bytes a) ≡ length (contents_bytes a.control)
+unfolding control_bytes two_at
+len-bytes a is = two-again (length (contents_bytes a.control)) (short-contents a.control is.sendable.contents)
+
+drop-bytes : (a : Addressed) → drop 6 (control_bytes a) ≡ contents_bytes a.control
+unfolding control_bytes
+drop-bytes a = refl
+
+pub length-bytes : (a : Addressed) → length (control_bytes a) ≡ 6 + length (contents_bytes a.control)
+unfolding control_bytes
+length-bytes a = omega arith
+
+-- a header and contents together
+pub bytes-parts : (a : Addressed) (header : List ℕ)
+    → header ≡ control_header (control_kind a.control) (receiver_number a.to) (length (contents_bytes a.control))
+    → header ++ contents_bytes a.control ≡ control_bytes a
+unfolding control_bytes
+bytes-parts a header header-is = ap (λ (xs : List ℕ). xs ++ contents_bytes a.control) header-is
+
+bytes-kind : (a : Addressed) → HasControlKind (control_kind a.control) (control_bytes a)
+unfolding control_bytes
+bytes-kind a = record { long = omega arith; version = refl; code = refl }
+
+bytes-whole : (a : Addressed) → IsControl a → IsWhole (control_kind a.control) (control_bytes a)
+bytes-whole a is = record {
+  header = bytes-kind a;
+  fits = ap (λ (xs : List ℕ). length_fits (control_kind a.control) (length xs)) (drop-bytes a) ∙ fits-contents a.control is.sendable.contents;
+  len = ap length (drop-bytes a) ∙ sym (len-bytes a is);
+}
+
+-- a spelling has no fault
+pub fault-bytes : (a : Addressed) → IsControl a → control_fault (control_bytes a) ≡ None
+fault-bytes a is = fault-whole (control_kind a.control) (control_bytes a) (bytes-whole a is)
+
+-- bytes with a fault are no spelling
+pub fault-not_bytes : (a : Addressed) (bytes : List ℕ) (bad : Bad) → IsControl a → control_bytes a ≡ bytes → control_fault bytes ≡ Some bad → ⊥
+fault-not_bytes a bytes bad is same fault =
+    let none : control_fault bytes ≡ None = ap control_fault (sym same) ∙ fault-bytes a is in
+    cc
+
+-- ---- one message for a spelling
+
+-- the entries that bytes spell, eight by eight
+announced_of : List ℕ → List Announced
+announced_of (a ∷ b ∷ c ∷ d ∷ e ∷ f ∷ g ∷ h ∷ bytes) =
+    record { host = record { 0 = from_be_bytes w16 (a ∷ b ∷ []) }; time = record { 0 = from_be_bytes w64 (0 ∷ 0 ∷ c ∷ d ∷ e ∷ f ∷ g ∷ h ∷ []) } } ∷ announced_of bytes
+announced_of _ = []
+
+-- the links that bytes spell, two by two
+links_of : List ℕ → List LinkId
+links_of (a ∷ b ∷ bytes) = record { 0 = from_be_bytes w16 (a ∷ b ∷ []) } ∷ links_of bytes
+links_of _ = []
+
+announced-again : (list : List Announced) → All (λ e. e.time.0 < 2 ^ 48) list → All (λ e. e.host.0 < 2 ^ 16) list
+    → announced_of (flat_map announced_bytes list) ≡ list
+unfolding announced_of
+announced-again [] times hosts = refl
+announced-again (e ∷ list) times hosts =
+    let time = six-again e.time.0 (All-head (λ (x : Announced). x.time.0 < 2 ^ 48) e list times) in
+    let host = two-again e.host.0 (All-head (λ (x : Announced). x.host.0 < 2 ^ 16) e list hosts) in
+    let rest = announced-again list (All-tail (λ (x : Announced). x.time.0 < 2 ^ 48) e list times) (All-tail (λ (x : Announced). x.host.0 < 2 ^ 16) e list hosts) in
+    rw (time, host, rest) refl
+
+links-again : (links : List LinkId) → All (λ l. l.0 < 2 ^ 16) links → links_of (flat_map link_bytes links) ≡ links
+unfolding links_of
+links-again [] each = refl
+links-again (l ∷ links) each =
+    let link = two-again l.0 (All-head (λ (x : LinkId). x.0 < 2 ^ 16) l links each) in
+    let rest = links-again links (All-tail (λ (x : LinkId). x.0 < 2 ^ 16) l links each) in
+    rw (link, rest) refl
+
+-- the message of a kind that contents spell
+control_of : ControlKind → List ℕ → Control
+control_of Down contents = message.Down (record { 0 = two_at 0 contents }) (record { 0 = six_at 2 contents })
+control_of Freeze contents = message.Freeze (record { 0 = two_at 0 contents })
+control_of Notice contents = message.Notice (announced_of contents)
+control_of Done contents = message.Done (record { 0 = two_at 0 contents }) (two_at 2 contents)
+control_of DropLinks contents = message.DropLinks (links_of contents)
+control_of Gone contents = message.Gone (record { 0 = two_at 0 contents }) (two_at 2 contents)
+
+contents-again : (c : Control) → HasContents c → HasTwoByteNames c → control_of (control_kind c) (contents_bytes c) ≡ c
+unfolding control_of two_at six_at
+contents-again (message.Down link value) has names = rw (two-again link.0 names, six-again value.0 has) refl
+contents-again (message.Freeze link) has names = rw (two-again link.0 names) refl
+contents-again (message.Notice list) has names = ap message.Notice (announced-again list has.2 names)
+contents-again (message.Done host count) has names = rw (two-again host.0 names.0, two-again count names.1) refl
+contents-again (message.DropLinks links) has names = ap message.DropLinks (links-again links names)
+contents-again (message.Gone node count) has names = rw (two-again node.0 names.0, two-again count names.1) refl
+
+receiver-below : (to : To) → IsReceiver to → receiver_number to < 2 ^ 16
+receiver-below Controller is = omega arith
+receiver-below (Node node) is = omega arith
+
+receiver-same : (a b : To) → IsReceiver a → IsReceiver b → receiver_number a ≡ receiver_number b → a ≡ b
+receiver-same Controller Controller a-is b-is same = refl
+receiver-same Controller (Node node) a-is b-is same = absurd (omega arith)
+receiver-same (Node node) Controller a-is b-is same = absurd (omega arith)
+receiver-same (Node node) (Node other) a-is b-is same = ap (λ (n : ℕ). Node (record { 0 = n })) same
+
+to-bytes : (a : Addressed) → IsControl a → two_at 2 (control_bytes a) ≡ receiver_number a.to
+unfolding control_bytes two_at
+to-bytes a is = two-again (receiver_number a.to) (receiver-below a.to is.sendable.to)
+
+kind-same : (a b : Addressed) → control_bytes a ≡ control_bytes b → control_kind a.control ≡ control_kind b.control
+kind-same a b same =
+    let kind_at : ℕ → Option ControlKind = λ n. find (λ k. eqb (control_code k) n) control_kinds in
+    let found : Some (control_kind a.control) ≡ Some (control_kind b.control) =
+    sym (kind-at_code (control_kind a.control)) ∙ ap kind_at (sym (bytes-kind a).code)
+    ∙ ap (λ (xs : List ℕ). kind_at (slice_index xs 1)) same
+    ∙ ap kind_at (bytes-kind b).code ∙ kind-at_code (control_kind b.control) in
+    cc
+
+-- a spelling is that of one message
+pub bytes-same : (a b : Addressed) → IsControl a → IsControl b → control_bytes a ≡ control_bytes b → a ≡ b
+bytes-same a b a-is b-is same =
+    let to : a.to ≡ b.to = receiver-same a.to b.to a-is.sendable.to b-is.sendable.to (sym (to-bytes a a-is) ∙ ap (two_at 2) same ∙ to-bytes b b-is) in
+    let contents : contents_bytes a.control ≡ contents_bytes b.control = sym (drop-bytes a) ∙ ap (drop 6) same ∙ drop-bytes b in
+    let control : a.control ≡ b.control =
+    sym (contents-again a.control a-is.sendable.contents a-is.names)
+    ∙ ap (λ (kind : ControlKind). control_of kind (contents_bytes a.control)) (kind-same a b same)
+    ∙ ap (control_of (control_kind b.control)) contents ∙ contents-again b.control b-is.sendable.contents b-is.names in
+    cc
