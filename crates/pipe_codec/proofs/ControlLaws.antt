@@ -1,11 +1,11 @@
 -- The laws of control messages as bytes.
-use Rattle.std.proofs.Common.{◌≡◌, ℕ, ◌+◌, ◌*◌, ◌%◌, ◌^◌, ◌<◌, ◌≤◌, Bool, true, false, not, ◌&&◌, ltb, leb, eqb, List, [], ◌∷◌, ◌++◌, length, take, drop, Option, Some, None, refl, sym, ap, subst, ◌∙◌, arith}
+use Rattle.std.proofs.Common.{◌≡◌, ℕ, ◌+◌, ◌*◌, ◌%◌, ◌^◌, ◌<◌, ◌≤◌, ◌==◌, Bool, true, false, not, ◌&&◌, ltb, leb, eqb, List, [], ◌∷◌, ◌++◌, length, take, drop, Option, Some, None, refl, sym, ap, subst, ◌∙◌, arith}
 use Rattle.std.specs.Prelude.{find, slice_index, All}
 use Rattle.std.specs.Int.{w16, w64, from_be_bytes}
 use Rattle.std.specs.List.{flat_map}
 use Rattle.std.proofs.lemmas.Bool.{and_from, and_parts, eq-eqb, eqb-true, le-leb, le-ltb, leb-true, ne_eqb}
-use Rattle.std.proofs.lemmas.List.{length-drop, length-append, take-append-drop}
-use Rattle.std.proofs.lemmas.List.Elements.{All-head, All-tail}
+use Rattle.std.proofs.lemmas.List.{length-append, length-drop, length-take-le, take-append-drop}
+use Rattle.std.proofs.lemmas.List.Elements.{All-head, All-push, All-tail}
 use Rattle.pipe_base.specs.declared.control.Addressed.{Addressed}
 use Rattle.pipe_base.specs.declared.control.Announced.{Announced}
 use Rattle.pipe_base.specs.declared.control.Control.{Control}
@@ -19,8 +19,8 @@ use Rattle.pipe_codec.specs.declared.control_kind.ControlKind.{ControlKind}
 use Rattle.pipe_codec.specs.declared.control_kind.ControlKind.TheVariants.{Down, Freeze, Notice, Done, DropLinks, Gone}
 use Rattle.pipe_codec.specs.Number.{two_bytes, six_bytes, two_at, six_at}
 use Rattle.pipe_codec.specs.Control.{announced_bytes, contents_bytes, control_bytes, control_code, control_fault, control_header, control_kind, control_kinds, fault_at_control_kind, length_fits, link_bytes, receiver_number, HasContents, HasControlKind, HasTwoByteNames, IsControl, IsReadAs, IsReceiver, IsWhole}
-use Rattle.pipe_codec.proofs.NumberLaws.{AreBytes, AreBytes-drop, counted-read, first_two, one-read, six-again, six_at-below, take-next, timed-read, two-again, two_at-below, two_bytes-two_at}
-use Rattle.pipe_codec.proofs.ItemLaws.{length-items}
+use Rattle.pipe_codec.proofs.NumberLaws.{AreBytes, AreBytes-take, counted-read, first_two, one-read, six-again, six_at-below, take-next, timed-read, two-again, two_at-below, two_bytes-two_at}
+use Rattle.pipe_codec.proofs.ItemLaws.{all-read, length-items, read-more}
 
 -- ---- faults
 
@@ -81,16 +81,22 @@ fits-contents : (c : Control) → HasContents c → length_fits (control_kind c)
 fits-contents (message.Down link value) has = refl
 fits-contents (message.Freeze link) has = refl
 fits-contents (message.Notice list) has =
-    let len = length-announced list in
     let some = has.0 in
     let few = has.1 in
-    and_from _ _ (and_from _ _ (eq-eqb _ _ (omega arith)) (le-leb _ _ (omega arith))) (le-leb _ _ (omega arith))
+    let len = length-announced list in
+    let whole : length (flat_map announced_bytes list) % 8 ≡ 0 = omega arith in
+    let least : 8 ≤ length (flat_map announced_bytes list) = omega arith in
+    let most : length (flat_map announced_bytes list) ≤ 512 = omega arith in
+    and_from _ _ (and_from _ _ (eq-eqb _ _ whole) (le-leb _ _ least)) (le-leb _ _ most)
 fits-contents (message.Done host count) has = refl
 fits-contents (message.DropLinks links) has =
-    let len = length-links links in
     let some = has.0 in
     let few = has.1 in
-    and_from _ _ (and_from _ _ (eq-eqb _ _ (omega arith)) (le-leb _ _ (omega arith))) (le-leb _ _ (omega arith))
+    let len = length-links links in
+    let whole : length (flat_map link_bytes links) % 2 ≡ 0 = omega arith in
+    let least : 2 ≤ length (flat_map link_bytes links) = omega arith in
+    let most : length (flat_map link_bytes links) ≤ 2176 = omega arith in
+    and_from _ _ (and_from _ _ (eq-eqb _ _ whole) (le-leb _ _ least)) (le-leb _ _ most)
 fits-contents (message.Gone node count) has = refl
 
 pub short-contents : (c : Control) → HasContents c → length (contents_bytes c) < 2 ^ 16
@@ -148,9 +154,9 @@ pub read-notice : (contents : List ℕ) (list : List Announced) → length_fits 
     → flat_map announced_bytes list ≡ contents → All (λ e. e.time.0 < 2 ^ 48) list × All (λ e. e.host.0 < 2 ^ 16) list
     → IsReadAs Notice contents (message.Notice list)
 read-notice contents list fit spelled each =
-    let sizes = and_parts _ _ fit in
-    let least = leb-true _ _ (and_parts _ _ sizes.0).1 in
-    let most = leb-true _ _ sizes.1 in
+    let sizes = and_parts ((length contents % 8 == 0) && leb 8 (length contents)) (leb (length contents) 512) fit in
+    let least : 8 ≤ length contents = leb-true _ _ (and_parts (length contents % 8 == 0) (leb 8 (length contents)) sizes.0).1 in
+    let most : length contents ≤ 512 = leb-true _ _ sizes.1 in
     let len = length-announced list in
     let same = ap length spelled in
     record { kind_is = refl; spelled = spelled; fits = (omega arith, omega arith, each.0); names = each.1 }
@@ -158,12 +164,70 @@ read-notice contents list fit spelled each =
 pub read-drop_links : (contents : List ℕ) (links : List LinkId) → length_fits DropLinks (length contents) ≡ true
     → flat_map link_bytes links ≡ contents → All (λ l. l.0 < 2 ^ 16) links → IsReadAs DropLinks contents (message.DropLinks links)
 read-drop_links contents links fit spelled each =
-    let sizes = and_parts _ _ fit in
-    let least = leb-true _ _ (and_parts _ _ sizes.0).1 in
-    let most = leb-true _ _ sizes.1 in
+    let sizes = and_parts ((length contents % 2 == 0) && leb 2 (length contents)) (leb (length contents) 2176) fit in
+    let least : 2 ≤ length contents = leb-true _ _ (and_parts (length contents % 2 == 0) (leb 2 (length contents)) sizes.0).1 in
+    let most : length contents ≤ 2176 = leb-true _ _ sizes.1 in
     let len = length-links links in
     let same = ap length spelled in
     record { kind_is = refl; spelled = spelled; fits = (omega arith, omega arith); names = each }
+
+-- entries that were read, and the bytes that are left
+pub record AnnouncedRead (list : List Announced) (rest whole : List ℕ) : Type 0 where
+  pub spelled : flat_map announced_bytes list ++ rest ≡ whole
+  pub times : All (λ e. e.time.0 < 2 ^ 48) list
+  pub hosts : All (λ e. e.host.0 < 2 ^ 16) list
+
+-- links that were read, and the bytes that are left
+pub record LinksRead (links : List LinkId) (rest whole : List ℕ) : Type 0 where
+  pub spelled : flat_map link_bytes links ++ rest ≡ whole
+  pub names : All (λ l. l.0 < 2 ^ 16) links
+
+pub more-announced : (list longer : List Announced) (host time : ℕ) (rest entry after whole : List ℕ) → AreBytes rest → 8 ≤ length rest
+    → entry ≡ take 8 rest → after ≡ drop 8 rest → host ≡ two_at 0 entry → time ≡ six_at 2 entry
+    → longer ≡ list ++ record { host = record { 0 = host }; time = record { 0 = time } } ∷ []
+    → flat_map announced_bytes list ++ rest ≡ whole → All (λ e. e.time.0 < 2 ^ 48) list → All (λ e. e.host.0 < 2 ^ 16) list
+    → AnnouncedRead longer after whole
+more-announced list longer host time rest entry after whole are long entry-is after-is host-is time-is longer-is spelled times hosts =
+    let x : Announced = record { host = record { 0 = host }; time = record { 0 = time } } in
+    let part : AreBytes entry = subst AreBytes (sym entry-is) (AreBytes-take 8 rest are) in
+    let eight : length entry ≡ 8 = ap length entry-is ∙ length-take-le 8 rest long in
+    let item : announced_bytes x ≡ entry = rw (host-is, time-is) (timed-read entry part eight) in
+    let whole_rest : announced_bytes x ++ after ≡ rest = rw (item, entry-is, after-is) (take-append-drop 8 rest) in
+    subst (λ (xs : List Announced). AnnouncedRead xs after whole) (sym longer-is) (record {
+      spelled = read-more announced_bytes list x rest after whole whole_rest spelled;
+      times = All-push (λ (e : Announced). e.time.0 < 2 ^ 48) list x times (rw time-is (six_at-below 2 entry part));
+      hosts = All-push (λ (e : Announced). e.host.0 < 2 ^ 16) list x hosts (rw host-is (two_at-below 0 entry part));
+    })
+
+pub all-announced : (list : List Announced) (rest whole : List ℕ) → length whole % 8 ≡ 0 → length rest < 8
+    → flat_map announced_bytes list ++ rest ≡ whole → flat_map announced_bytes list ≡ whole
+all-announced list rest whole even short spelled =
+    let size = length-announced list in
+    let both : length (flat_map announced_bytes list) + length rest ≡ length whole = sym (length-append (flat_map announced_bytes list) rest) ∙ ap length spelled in
+    let none : length rest ≡ 0 = omega arith in
+    all-read (flat_map announced_bytes list) rest whole none spelled
+
+pub more-links : (links longer : List LinkId) (link : ℕ) (rest entry after whole : List ℕ) → AreBytes rest → 2 ≤ length rest
+    → entry ≡ take 2 rest → after ≡ drop 2 rest → link ≡ two_at 0 entry → longer ≡ links ++ record { 0 = link } ∷ []
+    → flat_map link_bytes links ++ rest ≡ whole → All (λ l. l.0 < 2 ^ 16) links → LinksRead longer after whole
+more-links links longer link rest entry after whole are long entry-is after-is link-is longer-is spelled names =
+    let x : LinkId = record { 0 = link } in
+    let part : AreBytes entry = subst AreBytes (sym entry-is) (AreBytes-take 2 rest are) in
+    let two : length entry ≡ 2 = ap length entry-is ∙ length-take-le 2 rest long in
+    let item : link_bytes x ≡ entry = rw link-is (one-read entry part two) in
+    let whole_rest : link_bytes x ++ after ≡ rest = rw (item, entry-is, after-is) (take-append-drop 2 rest) in
+    subst (λ (xs : List LinkId). LinksRead xs after whole) (sym longer-is) (record {
+      spelled = read-more link_bytes links x rest after whole whole_rest spelled;
+      names = All-push (λ (l : LinkId). l.0 < 2 ^ 16) links x names (rw link-is (two_at-below 0 entry part));
+    })
+
+pub all-links : (links : List LinkId) (rest whole : List ℕ) → length whole % 2 ≡ 0 → length rest < 2
+    → flat_map link_bytes links ++ rest ≡ whole → flat_map link_bytes links ≡ whole
+all-links links rest whole even short spelled =
+    let size = length-links links in
+    let both : length (flat_map link_bytes links) + length rest ≡ length whole = sym (length-append (flat_map link_bytes links) rest) ∙ ap length spelled in
+    let none : length rest ≡ 0 = omega arith in
+    all-read (flat_map link_bytes links) rest whole none spelled
 
 header-read : (kind : ControlKind) (bytes : List ℕ) → AreBytes bytes → IsWhole kind bytes
     → control_header kind (two_at 2 bytes) (length (drop 6 bytes)) ≡ take 6 bytes
@@ -309,4 +373,5 @@ bytes-same a b a-is b-is same =
     sym (contents-again a.control a-is.sendable.contents a-is.names)
     ∙ ap (λ (kind : ControlKind). control_of kind (contents_bytes a.control)) (kind-same a b same)
     ∙ ap (control_of (control_kind b.control)) contents ∙ contents-again b.control b-is.sendable.contents b-is.names in
-    cc
+    let make : To → Control → Addressed = λ t c. record { to = t; control = c } in
+    ap (λ (t : To). make t a.control) to ∙ ap (make b.to) control
