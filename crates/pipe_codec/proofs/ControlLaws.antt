@@ -19,7 +19,7 @@ use Rattle.pipe_codec.specs.declared.control_kind.ControlKind.{ControlKind}
 use Rattle.pipe_codec.specs.declared.control_kind.ControlKind.TheVariants.{Down, Freeze, Notice, Done, DropLinks, Gone}
 use Rattle.pipe_codec.specs.Number.{two_bytes, six_bytes, two_at, six_at}
 use Rattle.pipe_codec.specs.Control.{announced_bytes, contents_bytes, control_bytes, control_code, control_fault, control_header, control_kind, control_kinds, fault_at_control_kind, length_fits, link_bytes, receiver_number, HasContents, HasControlKind, HasTwoByteNames, IsControl, IsReadAs, IsReceiver, IsWhole}
-use Rattle.pipe_codec.proofs.NumberLaws.{AreBytes, AreBytes-take, counted-read, first_two, one-read, six-again, six_at-below, take-next, timed-read, two-again, two_at-below, two_bytes-two_at}
+use Rattle.pipe_codec.proofs.NumberLaws.{AreBytes, AreBytes-behind, AreBytes-take, counted-read, first_two, one-read, six-again, six_at-below, take-next, timed-read, two-again, two_at-below, two_bytes-two_at}
 use Rattle.pipe_codec.proofs.ItemLaws.{all-read, length-items, read-more}
 
 -- ---- faults
@@ -182,17 +182,18 @@ pub record LinksRead (links : List LinkId) (rest whole : List ℕ) : Type 0 wher
   pub spelled : flat_map link_bytes links ++ rest ≡ whole
   pub names : All (λ l. l.0 < 2 ^ 16) links
 
-pub more-announced : (list longer : List Announced) (host time : ℕ) (rest entry after whole : List ℕ) → AreBytes rest → 8 ≤ length rest
+pub more-announced : (list longer : List Announced) (host time : ℕ) (rest entry after whole : List ℕ) → AreBytes whole → 8 ≤ length rest
     → entry ≡ take 8 rest → after ≡ drop 8 rest → host ≡ two_at 0 entry → time ≡ six_at 2 entry
     → longer ≡ list ++ record { host = record { 0 = host }; time = record { 0 = time } } ∷ []
     → flat_map announced_bytes list ++ rest ≡ whole → All (λ e. e.time.0 < 2 ^ 48) list → All (λ e. e.host.0 < 2 ^ 16) list
     → AnnouncedRead longer after whole
 more-announced list longer host time rest entry after whole are long entry-is after-is host-is time-is longer-is spelled times hosts =
     let x : Announced = record { host = record { 0 = host }; time = record { 0 = time } } in
-    let part : AreBytes entry = subst AreBytes (sym entry-is) (AreBytes-take 8 rest are) in
+    let part : AreBytes entry = subst AreBytes (sym entry-is) (AreBytes-take 8 rest (AreBytes-behind (flat_map announced_bytes list) rest whole are spelled)) in
     let eight : length entry ≡ 8 = ap length entry-is ∙ length-take-le 8 rest long in
     let item : announced_bytes x ≡ entry = rw (host-is, time-is) (timed-read entry part eight) in
-    let whole_rest : announced_bytes x ++ after ≡ rest = rw (item, entry-is, after-is) (take-append-drop 8 rest) in
+    let whole_rest : announced_bytes x ++ after ≡ rest = ap (λ (xs : List ℕ). xs ++ after) (item ∙ entry-is)
+    ∙ ap (λ (xs : List ℕ). take 8 rest ++ xs) after-is ∙ take-append-drop 8 rest in
     subst (λ (xs : List Announced). AnnouncedRead xs after whole) (sym longer-is) (record {
       spelled = read-more announced_bytes list x rest after whole whole_rest spelled;
       times = All-push (λ (e : Announced). e.time.0 < 2 ^ 48) list x times (rw time-is (six_at-below 2 entry part));
@@ -207,15 +208,16 @@ all-announced list rest whole even short spelled =
     let none : length rest ≡ 0 = omega arith in
     all-read (flat_map announced_bytes list) rest whole none spelled
 
-pub more-links : (links longer : List LinkId) (link : ℕ) (rest entry after whole : List ℕ) → AreBytes rest → 2 ≤ length rest
+pub more-links : (links longer : List LinkId) (link : ℕ) (rest entry after whole : List ℕ) → AreBytes whole → 2 ≤ length rest
     → entry ≡ take 2 rest → after ≡ drop 2 rest → link ≡ two_at 0 entry → longer ≡ links ++ record { 0 = link } ∷ []
     → flat_map link_bytes links ++ rest ≡ whole → All (λ l. l.0 < 2 ^ 16) links → LinksRead longer after whole
 more-links links longer link rest entry after whole are long entry-is after-is link-is longer-is spelled names =
     let x : LinkId = record { 0 = link } in
-    let part : AreBytes entry = subst AreBytes (sym entry-is) (AreBytes-take 2 rest are) in
+    let part : AreBytes entry = subst AreBytes (sym entry-is) (AreBytes-take 2 rest (AreBytes-behind (flat_map link_bytes links) rest whole are spelled)) in
     let two : length entry ≡ 2 = ap length entry-is ∙ length-take-le 2 rest long in
     let item : link_bytes x ≡ entry = rw link-is (one-read entry part two) in
-    let whole_rest : link_bytes x ++ after ≡ rest = rw (item, entry-is, after-is) (take-append-drop 2 rest) in
+    let whole_rest : link_bytes x ++ after ≡ rest = ap (λ (xs : List ℕ). xs ++ after) (item ∙ entry-is)
+    ∙ ap (λ (xs : List ℕ). take 2 rest ++ xs) after-is ∙ take-append-drop 2 rest in
     subst (λ (xs : List LinkId). LinksRead xs after whole) (sym longer-is) (record {
       spelled = read-more link_bytes links x rest after whole whole_rest spelled;
       names = All-push (λ (l : LinkId). l.0 < 2 ^ 16) links x names (rw link-is (two_at-below 0 entry part));

@@ -35,21 +35,21 @@ all-read items rest whole none so_far =
 
 -- one item more is written behind the others
 pub put-more : {X : Type 0} (f : X → List ℕ) (size : ℕ) → HasSize f size → (xs : List X) (i : ℕ) (x : X) (old now bytes : List ℕ)
-    → i < length xs → x ≡ get_or xs i x → 6 ≤ length old → bytes ≡ f x
+    → i < length xs → 6 ≤ length old → bytes ≡ f (get_or xs i x)
     → now ≡ take 6 old ++ flat_map f (take i xs) ++ drop (6 + size * i) old
     → take (6 + size * i) now ++ bytes ++ drop (6 + size * i + length bytes) now
     ≡ take 6 old ++ flat_map f (take (i + 1) xs) ++ drop (6 + size * (i + 1)) old
-put-more f size each xs i x old now bytes lt at room item so_far =
+put-more f size each xs i x old now bytes lt room item so_far =
     let text = take 6 old ++ flat_map f (take i xs) in
     let items : length (flat_map f (take i xs)) ≡ size * i =
     length-items f size each (take i xs) ∙ ap (λ (n : ℕ). size * n) (length-take-le i xs (omega arith)) in
     let len : length text ≡ 6 + size * i = omega (arith, length-append (take 6 old) (flat_map f (take i xs)), length-take-le 6 old room) in
-    let item_len : length bytes ≡ size = ap length item ∙ each x in
+    let item_len : length bytes ≡ size = ap length item ∙ each (get_or xs i x) in
     let placed : now ≡ text ++ drop (length text) old = so_far ∙ ap (λ (n : ℕ). text ++ drop n old) (sym len) in
     let end : length text + length bytes ≡ 6 + size * (i + 1) = omega (arith, mul-suc size i, ap (λ (n : ℕ). size * n) (add-one i)) in
     let longer : text ++ bytes ≡ take 6 old ++ flat_map f (take (i + 1) xs) =
-    ap (λ (ys : List ℕ). text ++ ys) item ∙ flat_map_more f (take 6 old) (take i xs) x
-    ∙ ap (λ ys. take 6 old ++ flat_map f ys) (ap (λ y. take i xs ++ y ∷ []) at ∙ sym (take_more xs i x lt)) in
+    ap (λ (ys : List ℕ). text ++ ys) item ∙ flat_map_more f (take 6 old) (take i xs) (get_or xs i x)
+    ∙ ap (λ ys. take 6 old ++ flat_map f ys) (sym (take_more xs i x lt)) in
     ap (λ (n : ℕ). take n now ++ bytes ++ drop (n + length bytes) now) (sym len)
     ∙ put-behind old now text bytes placed
     ∙ ap (λ (n : ℕ). (text ++ bytes) ++ drop n old) end

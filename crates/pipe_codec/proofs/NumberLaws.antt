@@ -3,7 +3,7 @@ use Rattle.std.proofs.Common.{◌≡◌, ℕ, ◌+◌, ◌^◌, ◌<◌, ◌≤�
 use Rattle.std.specs.Int.{w16, w64, byte_at, from_be_bytes, to_be_bytes}
 use Rattle.std.proofs.Math.Seq.{take-add}
 use Rattle.std.proofs.lemmas.Bool.{cases_lt}
-use Rattle.std.proofs.lemmas.List.{length-take, length-drop, take-append-drop, get_or-drop, get_or-take, get_or_past, take_all}
+use Rattle.std.proofs.lemmas.List.{length-take, length-drop, take-append-drop, get_or-append-add, get_or-drop, get_or-take, get_or_past, take_all}
 use Rattle.std.proofs.lemmas.Nat.{be_bytes_2, be_bytes_8, from_be_bytes-to_be_bytes_2, from_be_bytes-to_be_bytes_8}
 use Rattle.pipe_codec.specs.Number.{two_bytes, six_bytes, two_at, six_at}
 
@@ -20,6 +20,10 @@ AreBytes-take n bytes are i =
       | inl lt ↦ omega (arith, get_or-take n bytes i 0 lt, are i)
       | inr le ↦ omega (arith, get_or_past (take n bytes) i 0 (omega (arith, length-take n bytes)))
     ]
+
+pub AreBytes-behind : (front bytes whole : List ℕ) → AreBytes whole → front ++ bytes ≡ whole → AreBytes bytes
+AreBytes-behind front bytes whole are parts i =
+    omega (arith, ap (λ (xs : List ℕ). get_or xs (length front + i) 0) parts, get_or-append-add front bytes i 0, are (length front + i))
 
 cut : (at k : ℕ) (bytes : List ℕ) → at + k ≤ length bytes → length (take k (drop at bytes)) ≡ k
 cut at k bytes le = omega (arith, length-take k (drop at bytes), length-drop at bytes)

@@ -1,5 +1,5 @@
 use Rattle.std.proofs.Common.{◌≡◌, ◌+◌, ◌++◌, length, take, drop, sym, ap, ◌∙◌, arith}
-use Rattle.pipe_codec.specs.Control.{contents_bytes, control_header, control_kind, receiver_number}
+use Rattle.pipe_codec.specs.Control.{contents_bytes, control_bytes, control_header, control_kind, receiver_number}
 use Rattle.pipe_codec.proofs.ControlLaws.{bytes-parts, length-bytes}
 use Rattle.pipe_codec.proofs.PutLaws.{put-both}
 use Rattle.pipe_codec.proofs.control_bytes.encode_control.Goals as goal
@@ -20,4 +20,4 @@ returns-clause-bytes c =
     let header = c.header_of.ensures ∙ ap (control_header (control_kind c.args.a.now.control) (receiver_number c.args.a.now.to)) len in
     put-both 6 c.args.out.now c.put.new.out c.put_contents.new.out c.header_of.result contents (ap length c.header_of.ensures) c.put.ensures c.put_contents.ensures
     ∙ ap (λ xs. xs ++ drop (6 + length contents) c.args.out.now) (bytes-parts c.args.a.now c.header_of.result header)
-    ∙ ap (λ n. _ ++ drop (6 + n) c.args.out.now) (sym len)
+    ∙ ap (λ n. control_bytes c.args.a.now ++ drop (6 + n) c.args.out.now) (sym len)

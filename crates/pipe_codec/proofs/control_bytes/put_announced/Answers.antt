@@ -1,4 +1,4 @@
-use Rattle.std.proofs.Common.{◌≡◌, ◌+◌, ◌*◌, ◌++◌, take, drop, get_or, ◌∙◌, refl, arith}
+use Rattle.std.proofs.Common.{◌∙◌, arith}
 use Rattle.pipe_codec.specs.Control.{announced_bytes}
 use Rattle.pipe_codec.proofs.ControlLaws.{size-announced}
 use Rattle.pipe_codec.proofs.ItemLaws.{put-more}
@@ -6,7 +6,5 @@ use Rattle.pipe_codec.proofs.control_bytes.put_announced.Goals as goal
 
 pub entries-preserved : goal.entries-preserved
 entries-preserved c =
-    let e = c.timed.ensures in
-    let f = c.put.ensures in
-    c.put.ensures ∙ put-more announced_bytes 8 size-announced c.args.list.now c.entries.i _ c.args.out.now c.entries.out c.timed.result
-    c.entries-test.true ? (omega (arith, c.requires)) c.timed.ensures c.entries.invariant
+    c.put.ensures ∙ put-more announced_bytes 8 size-announced c.args.list.now c.entries.i (record { host = record { 0 = 0 }; time = record { 0 = 0 } })
+    c.args.out.now c.entries.out c.timed.result c.entries-test.true (omega (arith, c.requires)) c.timed.ensures c.entries.invariant
