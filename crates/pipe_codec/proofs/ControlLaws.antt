@@ -1,11 +1,11 @@
 -- The laws of control messages as bytes.
-use Rattle.std.proofs.Common.{◌≡◌, ℕ, ◌+◌, ◌*◌, ◌%◌, ◌^◌, ◌<◌, ◌≤◌, ◌==◌, Bool, true, false, not, ◌&&◌, ltb, leb, eqb, List, [], ◌∷◌, ◌++◌, length, take, drop, Option, Some, None, refl, sym, ap, subst, ◌∙◌, arith}
+use Rattle.std.proofs.Common.{◌≡◌, ℕ, ◌+◌, ◌*◌, ◌%◌, ◌^◌, ◌<◌, ◌≤◌, ◌==◌, Bool, true, false, cond, not, ◌&&◌, ltb, leb, eqb, List, [], ◌∷◌, ◌++◌, length, take, drop, Option, Some, None, refl, sym, ap, subst, ◌∙◌, arith, inl, inr}
 use Rattle.std.specs.Prelude.{find, slice_index, All}
 use Rattle.std.specs.Int.{w16, w64, from_be_bytes}
 use Rattle.std.specs.List.{flat_map}
-use Rattle.std.proofs.lemmas.Bool.{and_from, and_parts, eq-eqb, eqb-true, le-leb, le-ltb, leb-true, ne_eqb}
+use Rattle.std.proofs.lemmas.Bool.{and_from, and_parts, cases_Bool, cases_lt, eq-eqb, eqb-true, le-leb, le-ltb, leb-true, ltb-false, ne_eqb, not-false}
 use Rattle.std.proofs.lemmas.List.{length-append, length-drop, length-take-le, take-append-drop}
-use Rattle.std.proofs.lemmas.List.Elements.{All-head, All-push, All-tail}
+use Rattle.std.proofs.lemmas.List.Elements.{All-cons, All-head, All-nil, All-push, All-tail}
 use Rattle.pipe_base.specs.declared.control.Addressed.{Addressed}
 use Rattle.pipe_base.specs.declared.control.Announced.{Announced}
 use Rattle.pipe_base.specs.declared.control.Control.{Control}
@@ -14,15 +14,19 @@ use Rattle.pipe_base.specs.declared.control.To.{To}
 use Rattle.pipe_base.specs.declared.control.To.TheVariants.{Controller, Node}
 use Rattle.pipe_base.specs.declared.name.LinkId.{LinkId}
 use Rattle.pipe_codec.specs.declared.bad.Bad.{Bad}
-use Rattle.pipe_codec.specs.declared.bad.Bad.TheVariants.{Field, Length}
+use Rattle.pipe_codec.specs.declared.bad.Bad.TheVariants.{Short, Version, Field, Length}
 use Rattle.pipe_codec.specs.declared.control_kind.ControlKind.{ControlKind}
 use Rattle.pipe_codec.specs.declared.control_kind.ControlKind.TheVariants.{Down, Freeze, Notice, Done, DropLinks, Gone}
 use Rattle.pipe_codec.specs.Number.{two_bytes, six_bytes, two_at, six_at}
 use Rattle.pipe_codec.specs.Control.{announced_bytes, contents_bytes, control_bytes, control_code, control_fault, control_header, control_kind, control_kinds, fault_at_control_kind, length_fits, link_bytes, receiver_number, HasContents, HasControlKind, HasTwoByteNames, IsControl, IsReadAs, IsReceiver, IsWhole}
-use Rattle.pipe_codec.proofs.NumberLaws.{AreBytes, AreBytes-behind, AreBytes-take, counted-read, first_two, one-read, six-again, six_at-below, take-next, timed-read, two-again, two_at-below, two_bytes-two_at}
+use Rattle.pipe_codec.proofs.NumberLaws.{AreBytes, AreBytes-behind, AreBytes-drop, AreBytes-take, counted-read, first_two, one-read, six-again, six_at-below, take-next, timed-read, two-again, two_at-below, two_bytes-two_at}
+use Rattle.pipe_codec.proofs.PacketLaws.{guard_none}
 use Rattle.pipe_codec.proofs.ItemLaws.{all-read, length-items, read-more}
 
 -- ---- faults
+
+abbrev some_kind : ControlKind → Option ControlKind
+some_kind kind = Some kind
 
 kind-at_code : (kind : ControlKind) → find (λ k. eqb (control_code k) (control_code kind)) control_kinds ≡ Some kind
 kind-at_code Down = refl
@@ -377,3 +381,116 @@ bytes-same a b a-is b-is same =
     ∙ ap (control_of (control_kind b.control)) contents ∙ contents-again b.control b-is.sendable.contents b-is.names in
     let make : To → Control → Addressed = λ t c. record { to = t; control = c } in
     ap (λ (t : To). make t a.control) to ∙ ap (make b.to) control
+
+-- ---- bytes without a fault
+
+some-same : (a b : ControlKind) → some_kind a ≡ some_kind b → a ≡ b
+some-same a b same = cc
+
+-- the kind that is found by a code has this code
+code-found : (code : ℕ) (kind : ControlKind) (kinds : List ControlKind) → find (λ k. eqb (control_code k) code) kinds ≡ Some kind → code ≡ control_code kind
+code-found code kind [] found = absurd cc
+code-found code kind (k ∷ kinds) found =
+    elim (cases_Bool (eqb (control_code k) code)) [
+      | inl here ↦ sym (eqb-true _ _ here) ∙ ap control_code (some-same k kind (rw here at found))
+      | inr behind ↦ code-found code kind kinds (rw behind at found)
+    ]
+
+-- each number is that of a receiver
+receiver-of : (n : ℕ) → n < 2 ^ 16 → (to : To) × IsReceiver to × (receiver_number to ≡ n)
+receiver-of n lt =
+    elim (cases_lt n 65535) [
+      | inl below ↦ (Node (record { 0 = n }), below, refl)
+      | inr last ↦ (Controller, tt, omega arith)
+    ]
+
+-- entries that are all of the bytes
+record AllAnnounced (list : List Announced) (bytes : List ℕ) : Type 0 where
+  spelled : flat_map announced_bytes list ≡ bytes
+  times : All (λ e. e.time.0 < 2 ^ 48) list
+  hosts : All (λ e. e.host.0 < 2 ^ 16) list
+
+announced-all : (bytes : List ℕ) → AreBytes bytes → length bytes % 8 ≡ 0 → AllAnnounced (announced_of bytes) bytes
+unfolding announced_of two_at six_at
+announced-all [] are even = record { spelled = refl; times = All-nil (λ (e : Announced). e.time.0 < 2 ^ 48); hosts = All-nil (λ (e : Announced). e.host.0 < 2 ^ 16) }
+announced-all (a ∷ []) are even = absurd (omega arith)
+announced-all (a ∷ b ∷ []) are even = absurd (omega arith)
+announced-all (a ∷ b ∷ c ∷ []) are even = absurd (omega arith)
+announced-all (a ∷ b ∷ c ∷ d ∷ []) are even = absurd (omega arith)
+announced-all (a ∷ b ∷ c ∷ d ∷ e ∷ []) are even = absurd (omega arith)
+announced-all (a ∷ b ∷ c ∷ d ∷ e ∷ f ∷ []) are even = absurd (omega arith)
+announced-all (a ∷ b ∷ c ∷ d ∷ e ∷ f ∷ g ∷ []) are even = absurd (omega arith)
+announced-all (a ∷ b ∷ c ∷ d ∷ e ∷ f ∷ g ∷ h ∷ bytes) are even =
+    let entry = a ∷ b ∷ c ∷ d ∷ e ∷ f ∷ g ∷ h ∷ [] in
+    let part : AreBytes entry = AreBytes-take 8 (a ∷ b ∷ c ∷ d ∷ e ∷ f ∷ g ∷ h ∷ bytes) are in
+    let rest = announced-all bytes (AreBytes-drop 8 (a ∷ b ∷ c ∷ d ∷ e ∷ f ∷ g ∷ h ∷ bytes) are) (omega arith) in
+    let item : two_bytes (two_at 0 entry) ++ six_bytes (six_at 2 entry) ≡ entry = timed-read entry part refl in
+    record {
+      spelled = ap (λ (xs : List ℕ). xs ++ flat_map announced_bytes (announced_of bytes)) item ∙ ap (λ (xs : List ℕ). entry ++ xs) rest.spelled;
+      times = All-cons (λ (x : Announced). x.time.0 < 2 ^ 48) _ (announced_of bytes) (six_at-below 2 entry part) rest.times;
+      hosts = All-cons (λ (x : Announced). x.host.0 < 2 ^ 16) _ (announced_of bytes) (two_at-below 0 entry part) rest.hosts;
+    }
+
+-- links that are all of the bytes
+record AllLinks (links : List LinkId) (bytes : List ℕ) : Type 0 where
+  spelled : flat_map link_bytes links ≡ bytes
+  names : All (λ l. l.0 < 2 ^ 16) links
+
+links-all : (bytes : List ℕ) → AreBytes bytes → length bytes % 2 ≡ 0 → AllLinks (links_of bytes) bytes
+unfolding links_of two_at
+links-all [] are even = record { spelled = refl; names = All-nil (λ (l : LinkId). l.0 < 2 ^ 16) }
+links-all (a ∷ []) are even = absurd (omega arith)
+links-all (a ∷ b ∷ bytes) are even =
+    let entry = a ∷ b ∷ [] in
+    let part : AreBytes entry = AreBytes-take 2 (a ∷ b ∷ bytes) are in
+    let rest = links-all bytes (AreBytes-drop 2 (a ∷ b ∷ bytes) are) (omega arith) in
+    let item : two_bytes (two_at 0 entry) ≡ entry = one-read entry part refl in
+    record {
+      spelled = ap (λ (xs : List ℕ). xs ++ flat_map link_bytes (links_of bytes)) item ∙ ap (λ (xs : List ℕ). entry ++ xs) rest.spelled;
+      names = All-cons (λ (l : LinkId). l.0 < 2 ^ 16) _ (links_of bytes) (two_at-below 0 entry part) rest.names;
+    }
+
+-- contents of a length of their kind are those of a message
+contents-all : (kind : ControlKind) (contents : List ℕ) → AreBytes contents → length_fits kind (length contents) ≡ true → IsReadAs kind contents (control_of kind contents)
+unfolding control_of
+contents-all Down contents are fit = read-down contents _ _ are fit refl refl
+contents-all Freeze contents are fit = read-freeze contents _ are fit refl
+contents-all Notice contents are fit =
+    let sizes = and_parts ((length contents % 8 == 0) && leb 8 (length contents)) (leb (length contents) 512) fit in
+    let even : length contents % 8 ≡ 0 = eqb-true _ _ (and_parts (length contents % 8 == 0) (leb 8 (length contents)) sizes.0).0 in
+    let whole = announced-all contents are even in
+    read-notice contents (announced_of contents) fit whole.spelled (whole.times, whole.hosts)
+contents-all Done contents are fit = read-done contents _ _ are fit refl refl
+contents-all DropLinks contents are fit =
+    let sizes = and_parts ((length contents % 2 == 0) && leb 2 (length contents)) (leb (length contents) 2176) fit in
+    let even : length contents % 2 ≡ 0 = eqb-true _ _ (and_parts (length contents % 2 == 0) (leb 2 (length contents)) sizes.0).0 in
+    let whole = links-all contents are even in
+    read-drop_links contents (links_of contents) fit whole.spelled whole.names
+contents-all Gone contents are fit = read-gone contents _ _ are fit refl refl
+
+abbrev Spelled : List ℕ → Type 0
+Spelled bytes = (a : Addressed) × IsControl a × (control_bytes a ≡ bytes)
+
+faultless_at : (found : Option ControlKind) (bytes : List ℕ) → AreBytes bytes → 6 ≤ length bytes → slice_index bytes 0 ≡ 1
+    → find (λ k. eqb (control_code k) (slice_index bytes 1)) control_kinds ≡ found → fault_at_control_kind found bytes ≡ None → Spelled bytes
+faultless_at None bytes are long version found none = absurd cc
+faultless_at (Some kind) bytes are long version found none =
+    let field = guard_none (not (length_fits kind (two_at 4 bytes))) Field _ none in
+    let total = guard_none (not (eqb (length bytes) (6 + two_at 4 bytes))) Length None field.1 in
+    let same : length bytes ≡ 6 + two_at 4 bytes = eqb-true _ _ (not-false _ total.0) in
+    let len : length (drop 6 bytes) ≡ two_at 4 bytes = omega (arith, length-drop 6 bytes) in
+    let fits = ap (length_fits kind) len ∙ not-false _ field.0 in
+    let header : HasControlKind kind bytes = record { long = long; version = version; code = code-found _ kind control_kinds found } in
+    let to = receiver-of (two_at 2 bytes) (two_at-below 2 bytes are) in
+    let spells = read-spells kind bytes to.0 (control_of kind (drop 6 bytes)) are (record { header = header; fits = fits; len = len }) to.2 to.1
+    (contents-all kind (drop 6 bytes) (AreBytes-drop 6 bytes are) fits) in
+    (record { to = to.0; control = control_of kind (drop 6 bytes) }, spells.0, spells.1)
+
+-- bytes without a fault are the spelling of a message
+pub faultless : (bytes : List ℕ) → AreBytes bytes → control_fault bytes ≡ None → Spelled bytes
+unfolding control_fault
+faultless bytes are none =
+    let behind = fault_at_control_kind (find (λ k. eqb (control_code k) (slice_index bytes 1)) control_kinds) bytes in
+    let short = guard_none (ltb (length bytes) 6) Short (cond (not (eqb (slice_index bytes 0) 1)) (Some Version) behind) none in
+    let version = guard_none (not (eqb (slice_index bytes 0) 1)) Version behind short.1 in
+    faultless_at _ bytes are (ltb-false _ _ short.0) (eqb-true _ _ (not-false _ version.0)) refl version.1

@@ -1,5 +1,6 @@
 -- A number that is read is the number that was written, and what was written is read again.
 use Rattle.std.proofs.Common.{◌≡◌, ℕ, ◌+◌, ◌^◌, ◌<◌, ◌≤◌, List, [], ◌∷◌, ◌++◌, length, get_or, take, drop, refl, sym, ap, ◌∙◌, inl, inr, arith, zero, suc}
+use Rattle.std.specs.Prelude.{All}
 use Rattle.std.specs.Int.{w16, w64, byte_at, from_be_bytes, to_be_bytes}
 use Rattle.std.proofs.Math.Seq.{take-add}
 use Rattle.std.proofs.lemmas.Bool.{cases_lt}
@@ -10,6 +11,14 @@ use Rattle.pipe_codec.specs.Number.{two_bytes, six_bytes, two_at, six_at}
 -- each number of the list is a byte
 abbrev pub AreBytes : List ℕ → Type 0
 AreBytes bytes = (i : ℕ) → get_or bytes i 0 < 256
+
+-- a list of bytes, by its items
+pub AreBytes-from_all : (bytes : List ℕ) → All (λ b. b < 2 ^ 8) bytes → AreBytes bytes
+AreBytes-from_all bytes each i =
+    elim (cases_lt i (length bytes)) [
+      | inl lt ↦ each i 0 lt
+      | inr le ↦ omega (arith, get_or_past bytes i 0 le)
+    ]
 
 pub AreBytes-drop : (n : ℕ) (bytes : List ℕ) → AreBytes bytes → AreBytes (drop n bytes)
 AreBytes-drop n bytes are i = omega (arith, get_or-drop n bytes i 0, are (n + i))

@@ -1,7 +1,7 @@
 -- The laws of packets as bytes.
-use Rattle.std.proofs.Common.{◌≡◌, ℕ, zero, suc, ◌+◌, ◌^◌, ◌<◌, ◌≤◌, Bool, true, false, not, ◌&&◌, ltb, leb, eqb, List, [], ◌∷◌, ◌++◌, length, get_or, take, drop, Option, Some, None, refl, sym, ap, subst, ◌∙◌, arith, rules}
+use Rattle.std.proofs.Common.{◌≡◌, ℕ, zero, suc, ◌+◌, ◌^◌, ◌<◌, ◌≤◌, Bool, true, false, cond, not, ◌&&◌, ltb, leb, eqb, List, [], ◌∷◌, ◌++◌, length, get_or, take, drop, Option, Some, None, refl, sym, ap, subst, ◌∙◌, arith, rules}
 use Rattle.std.specs.Prelude.{slice_get, slice_index}
-use Rattle.std.proofs.lemmas.Bool.{and_from, and_parts, leb-true, le-leb, le-ltb, eq-eqb, ne_eqb}
+use Rattle.std.proofs.lemmas.Bool.{and_from, and_parts, eq-eqb, eqb-true, le-leb, le-ltb, leb-true, ltb-false, ne_eqb, not-false}
 use Rattle.std.proofs.lemmas.List.{append_assoc, take-append-drop, length-drop, length-append, take_at, drop_at, drop-drop}
 use Rattle.pipe_base.specs.declared.packet.Packet.{Packet}
 use Rattle.pipe_base.specs.declared.packet.PacketKind.{PacketKind}
@@ -212,5 +212,36 @@ read-spells kind bytes p len are read fit same =
     let body = body-read kind bytes p len read same in
     subst (λ (q : Packet). IsPacket q × (packet_bytes q ≡ bytes)) (sym read.fields)
     (fields-packet kind bytes are (fit-read kind bytes p len read ∙ fit) body, bytes-fields kind bytes are read.header body)
+
+-- ---- bytes without a fault
+
+-- a fault that is none is none of a test, and none of what comes behind it
+pub guard_none : (test : Bool) (bad : Bad) (behind : Option Bad) → cond test (Some bad) behind ≡ None → (test ≡ false) × (behind ≡ None)
+guard_none true bad behind none = absurd cc
+guard_none false bad behind none = (refl, none)
+
+abbrev Spelled : List ℕ → Type 0
+Spelled bytes = (p : Packet) × IsPacket p × (packet_bytes p ≡ bytes)
+
+faultless_at : (found : Option PacketKind) (bytes : List ℕ) → AreBytes bytes → 26 ≤ length bytes → slice_index bytes 0 ≡ 1
+    → slice_get packet_kinds (slice_index bytes 1) ≡ found → fault_at_kind found bytes ≡ None → Spelled bytes
+faultless_at None bytes are long version found none = absurd cc
+faultless_at (Some kind) bytes are long version found none =
+    let field = guard_none (not (fit_at kind bytes)) Field _ none in
+    let total = guard_none (not (eqb (length bytes) (26 + two_at 24 bytes))) Length None field.1 in
+    let fit = not-false _ field.0 in
+    let same : length bytes ≡ 26 + two_at 24 bytes = eqb-true _ _ (not-false _ total.0) in
+    let header : HasKind kind bytes = record { long = long; version = version; code = code-at_kind _ kind found } in
+    let body : length (drop 26 bytes) ≡ two_at 24 bytes = omega (arith, length-drop 26 bytes) in
+    (packet_fields kind bytes, fields-packet kind bytes are fit body, bytes-fields kind bytes are header body)
+
+-- bytes without a fault are the spelling of a packet
+pub faultless : (bytes : List ℕ) → AreBytes bytes → packet_fault bytes ≡ None → Spelled bytes
+unfolding packet_fault
+faultless bytes are none =
+    let behind = fault_at_kind (slice_get packet_kinds (slice_index bytes 1)) bytes in
+    let short = guard_none (ltb (length bytes) 26) Short (cond (not (eqb (slice_index bytes 0) 1)) (Some Version) behind) none in
+    let version = guard_none (not (eqb (slice_index bytes 0) 1)) Version behind short.1 in
+    faultless_at _ bytes are (ltb-false _ _ short.0) (eqb-true _ _ (not-false _ version.0)) refl version.1
 
 pub ruleset kind_codes = (code-at_kind)

@@ -5,6 +5,7 @@ mod bad;
 mod control;
 mod control_bytes;
 mod control_kind;
+mod law;
 mod number;
 mod packet;
 mod packet_bytes;
@@ -12,5 +13,9 @@ mod packet_bytes;
 pub use bad::{Bad, ControlFault};
 pub use control::decode_control;
 pub use control_bytes::{control_len, encode_control};
+pub use law::{
+    controls_are_read_back, faultless_bytes_are_controls, faultless_bytes_are_packets,
+    packets_are_read_back,
+};
 pub use packet::{PacketRef, decode, own};
 pub use packet_bytes::encode;
