@@ -19,8 +19,8 @@ use Rattle.pipe_codec.specs.declared.control_kind.ControlKind.{ControlKind}
 use Rattle.pipe_codec.specs.declared.control_kind.ControlKind.TheVariants.{Down, Freeze, Notice, Done, DropLinks, Gone}
 use Rattle.pipe_codec.specs.Number.{two_bytes, six_bytes, two_at, six_at}
 use Rattle.pipe_codec.specs.Control.{announced_bytes, contents_bytes, control_bytes, control_code, control_fault, control_header, control_kind, control_kinds, fault_at_control_kind, length_fits, link_bytes, receiver_number, HasContents, HasControlKind, HasTwoByteNames, IsControl, IsReadAs, IsReceiver, IsWhole}
+use Rattle.pipe_codec.proofs.FaultLaws.{guard_none}
 use Rattle.pipe_codec.proofs.NumberLaws.{AreBytes, AreBytes-behind, AreBytes-drop, AreBytes-take, counted-read, first_two, one-read, six-again, six_at-below, take-next, timed-read, two-again, two_at-below, two_bytes-two_at}
-use Rattle.pipe_codec.proofs.PacketLaws.{guard_none}
 use Rattle.pipe_codec.proofs.ItemLaws.{all-read, length-items, read-more}
 
 -- ---- faults

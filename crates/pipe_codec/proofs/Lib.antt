@@ -1,4 +1,5 @@
 pub mod ControlLaws
+pub mod FaultLaws
 pub mod ItemLaws
 pub mod NumberLaws
 pub mod PacketLaws

@@ -11,6 +11,7 @@ use Rattle.pipe_codec.specs.declared.bad.Bad.{Bad}
 use Rattle.pipe_codec.specs.declared.bad.Bad.TheVariants.{Short, Version, Kind, Field, Length}
 use Rattle.pipe_codec.specs.Number.{two_bytes, six_bytes, two_at, six_at}
 use Rattle.pipe_codec.specs.Packet.{fault_at_kind, fault_behind_kind, fields_fit, fits_kind, packet_bytes, packet_code, packet_fault, packet_fields, packet_header, packet_kinds, HasKind, IsPacket, IsSendable}
+use Rattle.pipe_codec.proofs.FaultLaws.{guard_none}
 use Rattle.pipe_codec.proofs.NumberLaws.{AreBytes, first_two, take-next, two_bytes-two_at, six_bytes-six_at, two_at-below, six_at-below, two-again, six-again}
 
 -- ---- reading
@@ -214,11 +215,6 @@ read-spells kind bytes p len are read fit same =
     (fields-packet kind bytes are (fit-read kind bytes p len read ∙ fit) body, bytes-fields kind bytes are read.header body)
 
 -- ---- bytes without a fault
-
--- a fault that is none is none of a test, and none of what comes behind it
-pub guard_none : (test : Bool) (bad : Bad) (behind : Option Bad) → cond test (Some bad) behind ≡ None → (test ≡ false) × (behind ≡ None)
-guard_none true bad behind none = absurd cc
-guard_none false bad behind none = (refl, none)
 
 abbrev Spelled : List ℕ → Type 0
 Spelled bytes = (p : Packet) × IsPacket p × (packet_bytes p ≡ bytes)

@@ -6,7 +6,7 @@ ghost use Rattle.pipe_codec.specs.declared.bad.Bad.{Bad as AnyBad};
 ghost use Rattle.pipe_codec.specs.Control.{announced_bytes, control_bytes, control_fault, length_fits, link_bytes, receiver_number, HasControlKind, IsControl, IsReadAs, IsReceiver, IsWhole};
 
 use crate::control_kind::{ControlKind, kind_at, length_fits};
-use crate::number::{six_at, two_at};
+use crate::place::{six_at, two_at};
 use crate::{Bad, ControlFault};
 use pipe_base::{
     Addressed, Announced, AnnouncedList, Control, HostId, LinkId, LinkList, List, NoMemory, NodeId,

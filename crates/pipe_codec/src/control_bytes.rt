@@ -6,7 +6,7 @@ ghost use Rattle.pipe_codec.specs.Control.{announced_bytes, contents_bytes, cont
 
 use crate::control::HEADER;
 use crate::control_kind::{code_of, kind_of};
-use crate::number::put;
+use crate::place::put;
 use pipe_base::{Addressed, Announced, Control, LinkId, To, Ts};
 
 fn number_of(to: To) -> u16

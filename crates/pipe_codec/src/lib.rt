@@ -6,9 +6,9 @@ mod control;
 mod control_bytes;
 mod control_kind;
 mod law;
-mod number;
 mod packet;
 mod packet_bytes;
+mod place;
 
 pub use bad::{Bad, ControlFault};
 pub use control::decode_control;

@@ -6,7 +6,7 @@ ghost use Rattle.pipe_base.specs.declared.packet.Packet.{Packet as AnyPacket};
 ghost use Rattle.pipe_codec.specs.Packet.{fields_fit, fits_kind, packet_bytes, packet_fault, packet_fields, packet_kinds, packet_seen, HasKind, IsPacket};
 
 use crate::Bad;
-use crate::number::{six_at, two_at};
+use crate::place::{six_at, two_at};
 use pipe_base::{BODY_LIMIT, Body, HostId, LAST_STAMP, NoMemory, Packet, PacketKind, Ts};
 use std::alloc::Global;
 
@@ -14,7 +14,7 @@ use std::alloc::Global;
 pub const HEADER: usize = 26;
 
 /// A packet whose body lies in the bytes that it was read from.
-#[derive(Clone, Copy, Debug)]
+#[derive(Clone, Copy, Debug, PartialEq, Eq)]
 pub struct PacketRef<'a> {
     pub kind: PacketKind,
     pub src: HostId,
@@ -25,7 +25,7 @@ pub struct PacketRef<'a> {
     pub body: &'a [u8],
 }
 
-fn kind_of(code: u8) -> Option<PacketKind>
+fn kind_at(code: u8) -> Option<PacketKind>
     ensures { result ≡ slice_get packet_kinds code }
 {
     match code {
@@ -49,7 +49,7 @@ fn read_kind(bytes: &[u8]) -> Result<PacketKind, Bad>
     if bytes[0] != 1 {
         return Err(Bad::Version);
     }
-    match kind_of(bytes[1]) {
+    match kind_at(bytes[1]) {
         Some(kind) => Ok(kind),
         None => Err(Bad::Kind),
     }

@@ -2,8 +2,8 @@
 ghost use Rattle.std.specs.Prelude.{◌≡◌, ◌+◌, ◌≤◌, ◌++◌, length, drop};
 ghost use Rattle.pipe_codec.specs.Packet.{packet_bytes, packet_code, packet_header, IsSendable};
 
-use crate::number::put;
 use crate::packet::HEADER;
+use crate::place::put;
 use pipe_base::{Packet, PacketKind};
 
 fn code_of(kind: PacketKind) -> u8

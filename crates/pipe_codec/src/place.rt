@@ -1,4 +1,4 @@
-// Numbers at a place among bytes.
+// Numbers and other bytes at a place among bytes.
 ghost use Rattle.std.specs.Prelude.{◌≡◌, ◌+◌, ◌++◌, ◌≤◌, length, take, drop};
 ghost use Rattle.pipe_codec.specs.Number.{two_at, six_at};
 
