@@ -24,3 +24,11 @@ put-both n old now new first second len front back =
     back ∙ ap (λ (k : ℕ). take k now ++ second ++ drop (k + length second) now) (sym len) in
     placed ∙ put-behind old now first second (put-first old now first front)
     ∙ ap (λ (k : ℕ). (first ++ second) ++ drop (k + length second) old) len
+
+-- one field more behind a text, as it is known
+pub put-field : (old now new text bytes field : List ℕ) → bytes ≡ field → now ≡ text ++ drop (length text) old
+    → new ≡ take (length text) now ++ bytes ++ drop (length text + length bytes) now → new ≡ (text ++ field) ++ drop (length (text ++ field)) old
+put-field old now new text bytes field same so_far put =
+    let known : new ≡ take (length text) now ++ field ++ drop (length text + length field) now =
+    put ∙ ap (λ (xs : List ℕ). take (length text) now ++ xs ++ drop (length text + length xs) now) same in
+    known ∙ put-behind old now text field so_far ∙ ap (λ (n : ℕ). (text ++ field) ++ drop n old) (sym (length-append text field))

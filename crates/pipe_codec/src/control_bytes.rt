@@ -6,7 +6,7 @@ ghost use Rattle.pipe_codec.specs.Control.{announced_bytes, contents_bytes, cont
 
 use crate::control::HEADER;
 use crate::control_kind::{code_of, kind_of};
-use crate::place::put;
+use crate::place::{put, six_bytes};
 use pipe_base::{Addressed, Announced, Control, LinkId, To, Ts};
 
 fn number_of(to: To) -> u16
@@ -39,9 +39,9 @@ fn timed(name: u16, time: Ts) -> [u8; 8]
     ensures { result ≡ two_bytes name ++ six_bytes time.0 }
 {
     let name = name.to_be_bytes();
-    let time = time.0.to_be_bytes();
+    let time = six_bytes(time.0);
     [
-        name[0], name[1], time[2], time[3], time[4], time[5], time[6], time[7],
+        name[0], name[1], time[0], time[1], time[2], time[3], time[4], time[5],
     ]
 }
 

@@ -1,6 +1,6 @@
 // Numbers and other bytes at a place among bytes.
 ghost use Rattle.std.specs.Prelude.{◌≡◌, ◌+◌, ◌++◌, ◌≤◌, length, take, drop};
-ghost use Rattle.pipe_codec.specs.Number.{two_at, six_at};
+ghost use Rattle.pipe_codec.specs.Number.{two_at, six_at, six_bytes};
 
 #[tactic(auto, unfolding(crate::specs::Number::two_at))]
 pub fn two_at(at: usize, bytes: &[u8]) -> u16
@@ -25,6 +25,14 @@ pub fn six_at(at: usize, bytes: &[u8]) -> u64
         bytes[at + 4],
         bytes[at + 5],
     ])
+}
+
+// The low six bytes of a number.
+pub fn six_bytes(number: u64) -> [u8; 6]
+    ensures { result ≡ six_bytes number }
+{
+    let [_, _, a, b, c, d, e, f] = number.to_be_bytes();
+    [a, b, c, d, e, f]
 }
 
 // Writes bytes at a place.
