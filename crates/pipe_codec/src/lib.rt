@@ -19,3 +19,6 @@ pub use law::{
 };
 pub use packet::{PacketRef, decode, own};
 pub use packet_bytes::encode;
+
+#[cfg(test)]
+mod tests;
