@@ -4,7 +4,7 @@ use Rattle.std.specs.Prelude.{All}
 use Rattle.std.specs.Int.{w16, w64, byte_at, from_be_bytes, to_be_bytes}
 use Rattle.std.proofs.Math.Seq.{take-add}
 use Rattle.std.proofs.lemmas.Bool.{cases_lt}
-use Rattle.std.proofs.lemmas.List.{length-take, length-drop, take-append-drop, get_or-append-add, get_or-drop, get_or-take, get_or_past, take_all}
+use Rattle.std.proofs.lemmas.List.{length-take, length-drop, get_or-append-add, get_or-drop, get_or-take, get_or_past, take_all}
 use Rattle.std.proofs.lemmas.Nat.{be_bytes_2, be_bytes_8, from_be_bytes-to_be_bytes_2, from_be_bytes-to_be_bytes_8}
 use Rattle.pipe_codec.specs.Number.{two_bytes, six_bytes, two_at, six_at}
 

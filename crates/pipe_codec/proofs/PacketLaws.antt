@@ -1,16 +1,15 @@
 -- The laws of packets as bytes.
-use Rattle.std.proofs.Common.{◌≡◌, ℕ, zero, suc, ◌+◌, ◌^◌, ◌<◌, ◌≤◌, Bool, true, false, cond, not, ◌&&◌, ltb, leb, eqb, List, [], ◌∷◌, ◌++◌, length, get_or, take, drop, Option, Some, None, refl, sym, ap, subst, ◌∙◌, arith, rules}
+use Rattle.std.proofs.Common.{◌≡◌, ℕ, zero, suc, ◌+◌, ◌≤◌, Bool, true, false, cond, not, ltb, eqb, List, [], ◌∷◌, ◌++◌, length, take, drop, Option, Some, None, refl, sym, ap, subst, ◌∙◌, arith}
 use Rattle.std.specs.Prelude.{slice_get, slice_index}
 use Rattle.std.proofs.lemmas.Bool.{and_from, and_parts, eq-eqb, eqb-true, le-leb, le-ltb, leb-true, ltb-false, ne_eqb, not-false}
-use Rattle.std.proofs.lemmas.List.{append_assoc, take-append-drop, length-drop, length-append, take_at, drop_at, drop-drop}
+use Rattle.std.proofs.lemmas.List.{take-append-drop, length-drop}
 use Rattle.pipe_base.specs.declared.packet.Packet.{Packet}
 use Rattle.pipe_base.specs.declared.packet.PacketKind.{PacketKind}
 use Rattle.pipe_base.specs.declared.packet.PacketKind.TheVariants.{Beacon, Plain, Prepare, Ack, Recall, RecallAck}
-use Rattle.pipe_base.specs.Limits.{last_stamp, most_body}
 use Rattle.pipe_codec.specs.declared.bad.Bad.{Bad}
-use Rattle.pipe_codec.specs.declared.bad.Bad.TheVariants.{Short, Version, Kind, Field, Length}
-use Rattle.pipe_codec.specs.Number.{two_bytes, six_bytes, two_at, six_at}
-use Rattle.pipe_codec.specs.Packet.{fault_at_kind, fault_behind_kind, fields_fit, fits_kind, packet_bytes, packet_code, packet_fault, packet_fields, packet_header, packet_kinds, HasKind, IsPacket, IsSendable}
+use Rattle.pipe_codec.specs.declared.bad.Bad.TheVariants.{Short, Version, Field, Length}
+use Rattle.pipe_codec.specs.Number.{two_bytes, two_at, six_at}
+use Rattle.pipe_codec.specs.Packet.{fault_at_kind, fault_behind_kind, fields_fit, fits_kind, packet_bytes, packet_code, packet_fault, packet_fields, packet_header, packet_kinds, HasKind, IsPacket}
 use Rattle.pipe_codec.proofs.FaultLaws.{guard_none}
 use Rattle.pipe_codec.proofs.NumberLaws.{AreBytes, first_two, take-next, two_bytes-two_at, six_bytes-six_at, two_at-below, six_at-below, two-again, six-again}
 

@@ -1,6 +1,6 @@
 -- Writing into a buffer, one part behind the other.
 use Rattle.std.proofs.Common.{◌≡◌, ℕ, ◌+◌, List, ◌++◌, length, take, drop, sym, ap, ◌∙◌, refl, zero-add}
-use Rattle.std.proofs.lemmas.List.{append_assoc, length-append, take_at, drop_at, drop-drop}
+use Rattle.std.proofs.lemmas.List.{length-append, take_at, drop_at, drop-drop}
 
 -- a text at the front of a buffer, and then more behind it
 pub put-behind : (old now text bytes : List ℕ) → now ≡ text ++ drop (length text) old

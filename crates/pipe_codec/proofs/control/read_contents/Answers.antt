@@ -1,6 +1,4 @@
-use Rattle.std.proofs.Common.{ap, arith, sym, subst, length, true, ◌≡◌}
-use Rattle.pipe_base.specs.declared.control.Control.TheVariants as message
-use Rattle.pipe_codec.specs.Control.{IsReadAs, length_fits}
+use Rattle.std.proofs.Common.{arith}
 use Rattle.pipe_codec.proofs.ControlLaws.{read-done, read-down, read-drop_links, read-freeze, read-gone, read-notice}
 use Rattle.pipe_codec.proofs.control.read_contents.Goals as goal
 

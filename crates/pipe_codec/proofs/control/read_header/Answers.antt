@@ -1,4 +1,4 @@
-use Rattle.std.proofs.Common.{sym, ◌∙◌, ap}
+use Rattle.std.proofs.Common.{sym, ◌∙◌}
 use Rattle.pipe_codec.proofs.ControlLaws.{fault-field, fault-length}
 use Rattle.pipe_codec.proofs.control.read_header.Goals as goal
 

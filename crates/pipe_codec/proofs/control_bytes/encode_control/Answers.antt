@@ -1,4 +1,4 @@
-use Rattle.std.proofs.Common.{◌≡◌, ◌+◌, ◌++◌, length, take, drop, sym, ap, ◌∙◌, arith}
+use Rattle.std.proofs.Common.{◌+◌, ◌++◌, length, drop, sym, ap, ◌∙◌, arith}
 use Rattle.pipe_codec.specs.Control.{contents_bytes, control_bytes, control_header, control_kind, receiver_number}
 use Rattle.pipe_codec.proofs.ControlLaws.{bytes-parts, length-bytes}
 use Rattle.pipe_codec.proofs.PutLaws.{put-both}

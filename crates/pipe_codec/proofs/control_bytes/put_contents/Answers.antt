@@ -1,4 +1,4 @@
-use Rattle.std.proofs.Common.{ℕ, ◌+◌, ◌*◌, ◌≤◌, length, subst, sym, ap, ◌∙◌, arith}
+use Rattle.std.proofs.Common.{length, ap, ◌∙◌, arith}
 use Rattle.pipe_base.specs.declared.control.Control.{Control}
 use Rattle.pipe_codec.specs.Control.{contents_bytes}
 use Rattle.pipe_codec.proofs.ControlLaws.{length-announced, length-links}

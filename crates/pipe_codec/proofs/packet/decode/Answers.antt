@@ -1,7 +1,4 @@
-use Rattle.std.proofs.Common.{◌≡◌, ℕ, false, true, length, drop, Some, ap, sym, ◌∙◌, subst, arith}
-use Rattle.std.proofs.lemmas.Result.{err_from_is_err_and}
-use Rattle.pipe_base.specs.declared.packet.Packet.{Packet}
-use Rattle.pipe_codec.specs.Packet.{packet_bytes, packet_seen, IsPacket}
+use Rattle.std.proofs.Common.{sym, ◌∙◌, arith}
 use Rattle.pipe_codec.proofs.PacketLaws.{IsRead, bytes-same, fault-not_bytes, read-none, read-other_length, read-spells, read-unfit}
 use Rattle.pipe_codec.proofs.packet.decode.Goals as goal
 
