@@ -62,6 +62,7 @@ pub record IsControl (a : Addressed) : Type 0 where
 
 -- ---- the spelling
 
+-- the kind of a message
 abbrev pub control_kind : Control → ControlKind
 control_kind (message.Down _ _) = Down
 control_kind (message.Freeze _) = Freeze
@@ -79,6 +80,7 @@ control_code Done = 19
 control_code DropLinks = 20
 control_code Gone = 21
 
+-- all kinds, in the order of their codes
 abbrev pub control_kinds : List ControlKind
 control_kinds = Down ∷ Freeze ∷ Notice ∷ Done ∷ DropLinks ∷ Gone ∷ []
 
@@ -86,6 +88,7 @@ control_kinds = Down ∷ Freeze ∷ Notice ∷ Done ∷ DropLinks ∷ Gone ∷ [
 abbrev pub announced_bytes : Announced → List ℕ
 announced_bytes e = two_bytes e.host.0 ++ six_bytes e.time.0
 
+-- a dropped link
 abbrev pub link_bytes : LinkId → List ℕ
 link_bytes l = two_bytes l.0
 

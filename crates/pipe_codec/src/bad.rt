@@ -28,6 +28,17 @@ pub enum ControlFault {
     NoMemory,
 }
 
+impl From<Bad> for ControlFault {
+    ghost use Rattle.std.specs.Prelude.{◌≡◌};
+    ghost use Rattle.pipe_codec.specs.declared.bad.ControlFault.TheVariants.{Bad};
+
+    ghost from_gives = { λ bad e. e ≡ Bad bad };
+
+    fn from(bad: Bad) -> Self {
+        ControlFault::Bad(bad)
+    }
+}
+
 impl From<NoMemory> for ControlFault {
     ghost use Rattle.std.specs.Prelude.{◌≡◌};
     ghost use Rattle.pipe_codec.specs.declared.bad.ControlFault.TheVariants.{NoMemory};

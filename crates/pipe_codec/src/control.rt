@@ -130,14 +130,9 @@ pub fn decode_control(alloc: Global, bytes: &[u8]) -> Result<Addressed, ControlF
     ensures again { (a : AnyAddressed) → IsControl a → control_bytes a ≡ bytes.now
         → MatchResult result (λ found. found ≡ a) (λ fault. fault ≡ ControlFault.NoMemory) }
 {
-    let kind = match read_header(bytes) {
-        Ok(kind) => kind,
-        Err(bad) => return Err(ControlFault::Bad(bad)),
-    };
+    let kind = read_header(bytes)?;
     let to = receiver(two_at(2, bytes));
     let (_, contents) = bytes.split_at(HEADER);
-    match read_contents(alloc, kind, contents) {
-        Ok(control) => Ok(Addressed { to, control }),
-        Err(NoMemory) => Err(ControlFault::NoMemory),
-    }
+    let control = read_contents(alloc, kind, contents)?;
+    Ok(Addressed { to, control })
 }
