@@ -1,0 +1,26 @@
+-- Lemmas on useless links.
+use Rattle.std.proofs.Common.{◌≡◌, ℕ, ◌<◌, Bool, true, false, ◌&&◌, not, List, [], ◌∷◌, ◌++◌, length, refl, sym, ◌∙◌, true≢false}
+use Rattle.pipe_base.specs.Below.{any_below}
+use Rattle.pipe_base.specs.Graph.{Graph, IsGraph, head_of}
+use Rattle.pipe_base.specs.Path.{LeavesBy, Leads, IsPath}
+use Rattle.pipe_base.specs.Reach.{feeds}
+use Rattle.pipe_paths.proofs.BelowLaws.{any_below_from, none_below}
+use Rattle.pipe_paths.proofs.Tests.{and_both, and_parts, not_gives, not_is, not_from}
+use Rattle.pipe_failtime.specs.Useless.{IsUseless, is_fed, is_useless}
+use Rattle.pipe_failtime.proofs.TestLaws.{and_fails, none_from}
+
+pub useless_in_words : (g : Graph) (by kept : ℕ → Bool) (link : ℕ) → is_useless g by kept link ≡ true → IsUseless g by kept link
+useless_in_words g by kept link is =
+    let parts = and_parts (by link) (not (is_fed g by kept link)) is in
+    record {
+      used = parts.0;
+      unfed = λ host lt kept_is. and_fails (kept host) (feeds g by host link)
+      (none_below (λ h. kept h && feeds g by h link) g.hosts host (not_is (is_fed g by kept link) parts.1) lt) kept_is;
+    }
+
+pub words_useless : (g : Graph) (by kept : ℕ → Bool) (link : ℕ) → IsUseless g by kept link → is_useless g by kept link ≡ true
+words_useless g by kept link is =
+    and_both (by link) (not (is_fed g by kept link)) is.used
+    (not_gives (is_fed g by kept link)
+    (none_from (λ h. kept h && feeds g by h link) g.hosts
+    (λ host lt both. let parts = and_parts (kept host) (feeds g by host link) both in true≢false (sym parts.1 ∙ is.unfed host lt parts.0))))
