@@ -26,17 +26,17 @@ leads_or_reported g live reports n b (l ∷ ls) leads =
         → (t : Bool) → is_reported reports l ≡ t → (list_any (is_reported reports) (l ∷ ls) ≡ true) ⊎ Leads g (unreported live reports) n b (l ∷ ls)
     by_report rest true is = inl (or_left (is_reported reports l) (list_any (is_reported reports) ls) is)
     by_report rest false isnt = elim rest [
-        | inl later ↦ inl (or_right (is_reported reports l) (list_any (is_reported reports) ls) later)
-        | inr way ↦ inr (
-            leads.0,
-            record {
-              known = leads.1.known;
-              used = and_both (live l) (not (is_reported reports l)) leads.1.used (not_gives (is_reported reports l) isnt);
-              begins = leads.1.begins;
-            },
-            way,
-          )
-      ]
+      | inl later ↦ inl (or_right (is_reported reports l) (list_any (is_reported reports) ls) later)
+      | inr way ↦ inr (
+        leads.0,
+        record {
+          known = leads.1.known;
+          used = and_both (live l) (not (is_reported reports l)) leads.1.used (not_gives (is_reported reports l) isnt);
+          begins = leads.1.begins;
+        },
+        way,
+      )
+    ]
 
 path_or_reported : (g : Graph) (live : ℕ → Bool) (reports : ℕ → Option Ts) (a b : ℕ) (path : List ℕ) → IsPath g live a b path
     → (list_any (is_reported reports) path ≡ true) ⊎ IsPath g (unreported live reports) a b path
@@ -48,16 +48,16 @@ path_or_reported g live reports a b (l ∷ ls) path =
         → (t : Bool) → is_reported reports l ≡ t → (list_any (is_reported reports) (l ∷ ls) ≡ true) ⊎ IsPath g (unreported live reports) a b (l ∷ ls)
     by_report rest true is = inl (or_left (is_reported reports l) (list_any (is_reported reports) ls) is)
     by_report rest false isnt = elim rest [
-        | inl later ↦ inl (or_right (is_reported reports l) (list_any (is_reported reports) ls) later)
-        | inr way ↦ inr (
-            record {
-              known = path.0.known;
-              used = and_both (live l) (not (is_reported reports l)) path.0.used (not_gives (is_reported reports l) isnt);
-              begins = path.0.begins;
-            },
-            way,
-          )
-      ]
+      | inl later ↦ inl (or_right (is_reported reports l) (list_any (is_reported reports) ls) later)
+      | inr way ↦ inr (
+        record {
+          known = path.0.known;
+          used = and_both (live l) (not (is_reported reports l)) path.0.used (not_gives (is_reported reports l) isnt);
+          begins = path.0.begins;
+        },
+        way,
+      )
+    ]
 
 -- a path by unreported links has no reported link
 leads_unreported : (g : Graph) (live : ℕ → Bool) (reports : ℕ → Option Ts) (n b : ℕ) (ls : List ℕ) → Leads g (unreported live reports) n b ls → list_any (is_reported reports) ls ≡ false

@@ -13,7 +13,10 @@ filled_none count test = record {
 }
   where
     nothing : (count n : ℕ) → has (replicate count false) n ≡ false
-    nothing count n = ?
+    nothing count n = elim (leb_tells count n) [
+      | inl past ↦ let le = past.1 in let size = length-replicate count false in get_or_past (replicate count false) n false (omega arith)
+      | inr inside ↦ get_or-replicate count n false false inside.1
+    ]
 
 pub filled_in : (xs : List Bool) (count : ℕ) (test : ℕ → Bool) (i : ℕ) → IsFilled xs count test i → i < count → test i ≡ true → IsFilled (set xs i true) count test (i + 1)
 filled_in xs count test i filled lt is =
@@ -43,6 +46,6 @@ filled_is xs count test bound filled past = λ i n. at n i
   where
     at : (n : ℕ) → has xs n ≡ test n
     at n = elim (leb_tells bound n) [
-        | inl above ↦ let le = above.1 in filled.above n le ∙ sym (past n le)
-        | inr below ↦ let lt = below.1 in filled.below n (omega arith)
-      ]
+      | inl above ↦ let le = above.1 in filled.above n le ∙ sym (past n le)
+      | inr below ↦ let lt = below.1 in filled.below n (omega arith)
+    ]

@@ -47,9 +47,9 @@ IsBest g by left bound (Some host) = IsFirst g by left bound host
 
 below_next : (n k : ℕ) → k < suc n → (k < n) ⊎ (k ≡ n)
 below_next n k lt = elim (eqb_tells k n) [
-    | inl same ↦ inr same.1
-    | inr other ↦ let apart = other.1 in inl (omega arith)
-  ]
+  | inl same ↦ inr same.1
+  | inr other ↦ let apart = other.1 in inl (omega arith)
+]
 
 -- a host that goes rather than the first so far
 better : (g : Graph) (by left : ℕ → Bool) (n : ℕ) (first : Option ℕ) → IsBest g by left n first → goes_rather g by left first n ≡ true → IsFirst g by left (suc n) n
@@ -78,15 +78,16 @@ better g by left n (Some h) best is =
   where
     never : (a : Standing) → goes_before a a ≡ false
     never a = precedes_none a.partners a.reached a.host
+
     on : (a b c : Standing) → goes_before a b ≡ true → goes_before b c ≡ true → goes_before a c ≡ true
     on a b c one two = precedes_on a.partners a.reached a.host b.partners b.reached b.host c.partners c.reached c.host one two
 
 -- a host that does not
 no_better : (g : Graph) (by left : ℕ → Bool) (n : ℕ) (first : Option ℕ) → IsBest g by left n first → goes_rather g by left first n ≡ false → IsBest g by left (suc n) first
 no_better g by left n None none isnt = λ b lt among. elim (below_next n b lt) [
-    | inl below ↦ none b below among
-    | inr same ↦ true≢false (sym (subst (λ (k : ℕ). left k ≡ true) same among) ∙ isnt)
-  ]
+  | inl below ↦ none b below among
+  | inr same ↦ true≢false (sym (subst (λ (k : ℕ). left k ≡ true) same among) ∙ isnt)
+]
 no_better g by left n (Some h) best isnt =
     let inside = best.inside in
     record {
@@ -126,8 +127,8 @@ goes_first g by left host lt goes =
       inside = lt;
       among = parts.0;
       first = λ b b_lt among.
-      and_fails (left b) (goes_before (standing_of g by left b) (standing_of g by left host))
-      (none_below (λ c. left c && goes_before (standing_of g by left c) (standing_of g by left host)) g.hosts b none b_lt) among;
+          and_fails (left b) (goes_before (standing_of g by left b) (standing_of g by left host))
+          (none_below (λ c. left c && goes_before (standing_of g by left c) (standing_of g by left host)) g.hosts b none b_lt) among;
     }
 
 -- one host goes alone
@@ -158,6 +159,7 @@ next_is g by left = by_strangers (has_strangers g by left) refl
     found : has_strangers g by left ≡ true → (first : Option ℕ) → IsBest g by left g.hosts first → IsNext g by left first
     found some None none = let is = strangers_left g by left some in absurd (none is.0 is.1 is.2)
     found some (Some host) best = (best.inside, some, first_goes g by left host best)
+
     by_strangers : (t : Bool) → has_strangers g by left ≡ t → IsNext g by left (if has_strangers g by left then first_to_go g by left g.hosts else None)
     by_strangers true some = subst (λ (t : Bool). IsNext g by left (if t then first_to_go g by left g.hosts else None)) (sym some)
         (found some (first_to_go g by left g.hosts) (first_best g by left g.hosts))
@@ -184,8 +186,10 @@ goes_in_words g by left host lt goes =
   where
     fewer : (a b : Standing) → goes_before b a ≡ false → a.partners ≤ b.partners
     fewer a b isnt = precedes_fewer a.partners a.reached a.host b.partners b.reached b.host isnt
+
     less : (a b : Standing) → goes_before b a ≡ false → b.partners ≡ a.partners → a.reached ≤ b.reached
     less a b isnt same = precedes_less a.partners a.reached a.host b.partners b.reached b.host isnt same
+
     last : (a b : Standing) → goes_before b a ≡ false → b.partners ≡ a.partners → b.reached ≡ a.reached → b.host ≤ a.host
     last a b isnt same alike = precedes_last a.partners a.reached a.host b.partners b.reached b.host isnt same alike
 
@@ -195,7 +199,7 @@ words_go g by left host lt is =
       inside = lt;
       among = is.among;
       first = λ b b_lt among. never (standing_of g by left host) (standing_of g by left b)
-        (is.fewest_partners b b_lt among) (is.fewest_reached b b_lt among) (is.greatest_number b b_lt among);
+          (is.fewest_partners b b_lt among) (is.fewest_reached b b_lt among) (is.greatest_number b b_lt among);
     })
   where
     never : (a b : Standing) → a.partners ≤ b.partners → (b.partners ≡ a.partners → a.reached ≤ b.reached)

@@ -26,7 +26,7 @@ left_parts g members gone host among =
 pub partners_are : (g : Graph) (by left : ℕ → Bool) (a b : ℕ) → has_strangers g by left ≡ false → a < g.hosts → b < g.hosts → left a ≡ true → left b ≡ true → are_partners g by a b ≡ true
 partners_are g by left a b none a_lt b_lt a_among b_among =
     let first = and_fails (left a) (any_below (λ c. left c && not (are_partners g by a c)) g.hosts)
-      (none_below (λ e. left e && any_below (λ c. left c && not (are_partners g by e c)) g.hosts) g.hosts a none a_lt) a_among in
+    (none_below (λ e. left e && any_below (λ c. left c && not (are_partners g by e c)) g.hosts) g.hosts a none a_lt) a_among in
     let second = and_fails (left b) (not (are_partners g by a b)) (none_below (λ c. left c && not (are_partners g by a c)) g.hosts b first b_lt) b_among in
     is_not (are_partners g by a b) second
   where
@@ -53,6 +53,7 @@ round_same g by members gone none = λ i host. same host i
     or_nothing true t u h = refl
     or_nothing false true u h = absurd (true≢false h)
     or_nothing false false u h = refl
+
     same : (host : ℕ) → after_round g by members gone host ≡ gone host
     same host = or_nothing (gone host) (has_strangers g by (is_left g members gone)) (goes_next g by (is_left g members gone) host) none
 
@@ -86,9 +87,9 @@ rounds_doom g by members gone (suc count) host is =
     elim (rounds_doom g by members (after_round g by members gone) count host is) [
       | inr member ↦ inr member
       | inl round ↦ elim (round_dooms g by members gone host round) [
-          | inl before ↦ inl before
-          | inr among ↦ let parts = left_parts g members gone host among in inr (parts.0, parts.1)
-        ]
+        | inl before ↦ inl before
+        | inr among ↦ let parts = left_parts g members gone host among in inr (parts.0, parts.1)
+      ]
     ]
 
 -- who is left after a round was left before
@@ -110,8 +111,8 @@ round_falls g by members gone some =
     let goes = one_goes g by (is_left g members gone) left.0 left.1 left.2 in
     let next = goes_first g by (is_left g members gone) goes.0 goes.1 goes.2 in
     let dooms : after_round g by members gone goes.0 ≡ true =
-      or_right (gone goes.0) (has_strangers g by (is_left g members gone) && goes_next g by (is_left g members gone) goes.0)
-      (and_both (has_strangers g by (is_left g members gone)) (goes_next g by (is_left g members gone) goes.0) some goes.2) in
+    or_right (gone goes.0) (has_strangers g by (is_left g members gone) && goes_next g by (is_left g members gone) goes.0)
+    (and_both (has_strangers g by (is_left g members gone)) (goes_next g by (is_left g members gone) goes.0) some goes.2) in
     count_falls (is_left g members (after_round g by members gone)) (is_left g members gone) g.hosts goes.0
     (λ host lt among. round_left g by members gone host among) goes.1
     (not_from (is_left g members (after_round g by members gone) goes.0)
@@ -155,26 +156,26 @@ pub round_puts : (g : Graph) (by members : ℕ → Bool) (gone : List Bool) (hos
     → has (set gone host true) ≡ after_round g by members (has gone)
 round_puts g by members gone host is inside =
     let next : IsNext g by (is_left g members (has gone)) (Some host) =
-      subst (IsNext g by (is_left g members (has gone))) is (next_is g by (is_left g members (has gone))) in
+    subst (IsNext g by (is_left g members (has gone))) is (next_is g by (is_left g members (has gone))) in
     λ i n. at next n i
   where
     at : IsNext g by (is_left g members (has gone)) (Some host) → (n : ℕ) → has (set gone host true) n ≡ after_round g by members (has gone) n
     at next n = elim (eqb_tells n host) [
-        | inl same ↦ subst (λ (m : ℕ). has (set gone host true) m ≡ after_round g by members (has gone) m) (sym same.1)
-            (get_or-set_same gone host true false inside
-            ∙ sym (or_right (has gone host) (has_strangers g by (is_left g members (has gone)) && goes_next g by (is_left g members (has gone)) host)
-            (and_both (has_strangers g by (is_left g members (has gone))) (goes_next g by (is_left g members (has gone)) host) next.1 next.2)))
-        | inr other ↦ get_or-set_other gone host n true false other.1 ∙ sym (same_tests (after_round g by members (has gone) n) (has gone n)
-            (λ round. elim (or_cases (has gone n) (has_strangers g by (is_left g members (has gone)) && goes_next g by (is_left g members (has gone)) n) round) [
-              | inl before ↦ before
-              | inr goes ↦
-                  let parts = and_parts (has_strangers g by (is_left g members (has gone))) (goes_next g by (is_left g members (has gone)) n) goes in
-                  let among = and_parts (is_left g members (has gone) n) _ parts.1 in
-                  let inner = left_parts g members (has gone) n among.0 in
-                  absurd (other.1 (goes_alone g by (is_left g members (has gone)) n host inner.0 next.0 parts.1 next.2))
-            ])
-            (or_left (has gone n) (has_strangers g by (is_left g members (has gone)) && goes_next g by (is_left g members (has gone)) n)))
-      ]
+      | inl same ↦ subst (λ (m : ℕ). has (set gone host true) m ≡ after_round g by members (has gone) m) (sym same.1)
+          (get_or-set_same gone host true false inside
+          ∙ sym (or_right (has gone host) (has_strangers g by (is_left g members (has gone)) && goes_next g by (is_left g members (has gone)) host)
+          (and_both (has_strangers g by (is_left g members (has gone))) (goes_next g by (is_left g members (has gone)) host) next.1 next.2)))
+      | inr other ↦ get_or-set_other gone host n true false other.1 ∙ sym (same_tests (after_round g by members (has gone) n) (has gone n)
+          (λ round. elim (or_cases (has gone n) (has_strangers g by (is_left g members (has gone)) && goes_next g by (is_left g members (has gone)) n) round) [
+            | inl before ↦ before
+            | inr goes ↦
+                let parts = and_parts (has_strangers g by (is_left g members (has gone))) (goes_next g by (is_left g members (has gone)) n) goes in
+                let among = and_parts (is_left g members (has gone) n) _ parts.1 in
+                let inner = left_parts g members (has gone) n among.0 in
+                absurd (other.1 (goes_alone g by (is_left g members (has gone)) n host inner.0 next.0 parts.1 next.2))
+          ])
+          (or_left (has gone n) (has_strangers g by (is_left g members (has gone)) && goes_next g by (is_left g members (has gone)) n)))
+    ]
 
 -- no next host: no round dooms one more
 pub rounds_over : (g : Graph) (by members gone : ℕ → Bool) (count : ℕ) → next_to_go g by (is_left g members gone) ≡ None → after_rounds g by members gone count ≡ gone
