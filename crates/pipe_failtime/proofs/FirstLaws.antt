@@ -165,6 +165,11 @@ next_is g by left = by_strangers (has_strangers g by left) refl
         (found some (first_to_go g by left g.hosts) (first_best g by left g.hosts))
     by_strangers false none = subst (λ (t : Bool). IsNext g by left (if t then first_to_go g by left g.hosts else None)) (sym none) none
 
+pub next_inside : (g : Graph) (by left : ℕ → Bool) (host : ℕ) → next_to_go g by left ≡ Some host → host < g.hosts
+next_inside g by left host is =
+    let next : IsNext g by left (Some host) = subst (IsNext g by left) is (next_is g by left) in
+    next.0
+
 -- some host goes next, where any is left
 pub one_goes : (g : Graph) (by left : ℕ → Bool) (a : ℕ) → a < g.hosts → left a ≡ true → (host : ℕ) × (host < g.hosts) × (goes_next g by left host ≡ true)
 one_goes g by left a lt among = pick (first_to_go g by left g.hosts) (first_best g by left g.hosts)

@@ -181,3 +181,37 @@ round_puts g by members gone host is inside =
 pub rounds_over : (g : Graph) (by members gone : ℕ → Bool) (count : ℕ) → next_to_go g by (is_left g members gone) ≡ None → after_rounds g by members gone count ≡ gone
 rounds_over g by members gone count is =
     rounds_same g by members gone count (subst (IsNext g by (is_left g members gone)) is (next_is g by (is_left g members gone)))
+
+-- a round of the code is the first of the rounds that are to come
+pub rounds_turn : (g : Graph) (by members : ℕ → Bool) (gone new : List Bool) (host count rest : ℕ) (end : ℕ → Bool)
+    → next_to_go g by (is_left g members (has gone)) ≡ Some host → host < length gone → new ≡ set gone host true
+    → rest ≡ suc count → after_rounds g by members (has gone) rest ≡ end → after_rounds g by members (has new) count ≡ end
+rounds_turn g by members gone new host count rest end next inside is one whole =
+    ap (λ (s : ℕ → Bool). after_rounds g by members s count) (ap (λ (xs : List Bool). has xs) is ∙ round_puts g by members gone host next inside)
+    ∙ sym (ap (λ (n : ℕ). after_rounds g by members (has gone) n) one)
+    ∙ whole
+
+-- sets that agree below the bound
+abbrev pub AgreeBelow : ℕ → (ℕ → Bool) → (ℕ → Bool) → Type 0
+AgreeBelow bound s t = (n : ℕ) → n < bound → s n ≡ t n
+
+left_alike : (g : Graph) (members s t : ℕ → Bool) → AgreeBelow g.hosts s t → is_left g members s ≡ is_left g members t
+left_alike g members s t agree = λ i host. at host i
+  where
+    pick : (host : ℕ) (b : Bool) → is_host g host ≡ b → (b && (members host && not (s host))) ≡ (b && (members host && not (t host)))
+    pick host true is = ap (λ (d : Bool). members host && not d) (agree host (ltb-true host g.hosts is))
+    pick host false is = refl
+
+    at : (host : ℕ) → is_left g members s host ≡ is_left g members t host
+    at host = pick host (is_host g host) refl
+
+-- what is no host does not bear on the rounds
+pub rounds_alike : (g : Graph) (by members s t : ℕ → Bool) (bound count : ℕ) → g.hosts ≤ bound → AgreeBelow bound s t
+    → AgreeBelow bound (after_rounds g by members s count) (after_rounds g by members t count)
+rounds_alike g by members s t bound zero few agree = agree
+rounds_alike g by members s t bound (suc count) few agree =
+    rounds_alike g by members (after_round g by members s) (after_round g by members t) bound count few
+    (λ host lt. round host lt (left_alike g members s t (λ n below. agree n (omega arith))))
+  where
+    round : (host : ℕ) → host < bound → is_left g members s ≡ is_left g members t → after_round g by members s host ≡ after_round g by members t host
+    round host lt same = λ i. agree host lt i || (has_strangers g by (same i) && goes_next g by (same i) host)

@@ -2,7 +2,7 @@
 use Rattle.std.proofs.Common.{◌≡◌, ℕ, zero, suc, ◌+◌, ◌<◌, ◌≤◌, ◌==◌, nat_lt, Bool, true, false, ◌&&◌, if◌then◌else◌, refl, sym, ap, ◌∙◌, true≢false, arith}
 use Rattle.pipe_base.specs.Below.{any_below}
 use Rattle.pipe_paths.proofs.BelowLaws as paths
-use Rattle.pipe_paths.proofs.BelowLaws.{any_below_from, any_below_gives, count_gains}
+use Rattle.pipe_paths.proofs.BelowLaws.{any_below_gives, count_gains}
 use Rattle.pipe_paths.proofs.Tests.{and_parts, not_from}
 use Rattle.pipe_failtime.specs.Count.{count_below}
 
@@ -38,6 +38,3 @@ none_counted p n none k lt is =
 
 pub count_most : (p : ℕ → Bool) (n : ℕ) → count_below p n ≤ n
 count_most p n = omega (arith, same_count p n, paths.count_most p n)
-
-pub some_below : (p : ℕ → Bool) (n k : ℕ) → k < n → p k ≡ true → any_below p n ≡ true
-some_below = any_below_from

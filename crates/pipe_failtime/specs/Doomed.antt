@@ -13,10 +13,13 @@ is_left graph members doomed host = is_host graph host && (members host && not (
 abbrev pub are_partners : Graph → (ℕ → Bool) → ℕ → ℕ → Bool
 are_partners graph by a b = reaches graph by a b && reaches graph by b a
 
+-- the host is left, and no partner of some host that is left
+abbrev pub is_stranger : Graph → (ℕ → Bool) → (ℕ → Bool) → ℕ → Bool
+is_stranger graph by left a = left a && any_below (λ b. left b && not (are_partners graph by a b)) graph.hosts
+
 -- two of the hosts that are left are no partners
 abbrev pub has_strangers : Graph → (ℕ → Bool) → (ℕ → Bool) → Bool
-has_strangers graph by left =
-    any_below (λ a. left a && any_below (λ b. left b && not (are_partners graph by a b)) graph.hosts) graph.hosts
+has_strangers graph by left = any_below (is_stranger graph by left) graph.hosts
 
 -- How a host stands among those that are left: how many are its partners, itself too where it reaches itself, and how many it reaches.
 pub record Standing : Type 0 where

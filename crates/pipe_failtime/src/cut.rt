@@ -31,7 +31,7 @@ pub fn is_cut(
     Ok(!reached)
 }
 
-#[tactic(auto, using(crate::proofs::TestLaws::none_more, crate::proofs::TestLaws::some_below))]
+#[tactic(auto, using(crate::proofs::TestLaws::none_more))]
 fn reaches_some(
     alloc: Global,
     topology: &Topology,

@@ -4,7 +4,7 @@ ghost use Rattle.pipe_base.specs.Below.{any_below};
 ghost use Rattle.pipe_base.specs.Reach.{reaches};
 ghost use Rattle.pipe_topo.specs.Sets.{has};
 ghost use Rattle.pipe_failtime.specs.Count.{count_below};
-ghost use Rattle.pipe_failtime.specs.Doomed.{are_partners, goes_before, has_strangers, standing_of};
+ghost use Rattle.pipe_failtime.specs.Doomed.{are_partners, goes_before, has_strangers, is_stranger, standing_of};
 ghost use Rattle.pipe_failtime.specs.First.{first_to_go, goes_rather, next_to_go};
 
 use crate::reach::Reach;
@@ -23,7 +23,7 @@ pub fn next_to_go(reach: &Reach<'_>, left: &HostSet) -> Option<u16>
     }
 }
 
-#[tactic(auto, using(crate::proofs::TestLaws::none_more, crate::proofs::TestLaws::some_below))]
+#[tactic(auto, using(crate::proofs::TestLaws::none_more))]
 fn has_strangers(reach: &Reach<'_>, left: &HostSet) -> bool
     ensures { result ≡ has_strangers reach.now.graph (has reach.now.by) (has left.now) }
 {
@@ -35,16 +35,14 @@ fn has_strangers(reach: &Reach<'_>, left: &HostSet) -> bool
     false
 }
 
-// The host is left, and no partner of some host that is left.
 fn is_stranger(reach: &Reach<'_>, left: &HostSet, host: u16) -> bool
     requires { host < reach.now.graph.hosts }
-    ensures { result ≡ (has left.now host && any_below (λ b. has left.now b && not (are_partners reach.now.graph (has reach.now.by) host b)) reach.now.graph.hosts) }
+    ensures { result ≡ is_stranger reach.now.graph (has reach.now.by) (has left.now) host }
 {
-    let hosts = reach.hosts();
-    host < hosts && left.has(HostId(host)) && lacks_partner(reach, left, host)
+    is_left(reach, left, host) && lacks_partner(reach, left, host)
 }
 
-#[tactic(auto, using(crate::proofs::TestLaws::none_more, crate::proofs::TestLaws::some_below))]
+#[tactic(auto, using(crate::proofs::TestLaws::none_more))]
 fn lacks_partner(reach: &Reach<'_>, left: &HostSet, host: u16) -> bool
     requires { host < reach.now.graph.hosts }
     ensures { result ≡ any_below (λ b. has left.now b && not (are_partners reach.now.graph (has reach.now.by) host b)) reach.now.graph.hosts }
@@ -86,6 +84,7 @@ fn goes_rather(reach: &Reach<'_>, left: &HostSet, first: Option<u16>, host: u16)
     }
 }
 
+// The host is below 64, as all that are in reach.
 fn is_left(reach: &Reach<'_>, left: &HostSet, host: u16) -> bool
     requires { host < reach.now.graph.hosts }
     ensures { result ≡ has left.now host }

@@ -68,7 +68,7 @@ fn is_useless(
 }
 
 // A kept host feeds the link.
-#[tactic(auto, using(crate::proofs::TestLaws::none_more, crate::proofs::TestLaws::some_below))]
+#[tactic(auto, using(crate::proofs::TestLaws::none_more))]
 fn is_fed(
     alloc: Global,
     topology: &Topology,

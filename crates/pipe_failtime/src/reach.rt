@@ -85,7 +85,6 @@ fn reach_table(alloc: Global, topology: &Topology, by: &LinkSet) -> Result<Vec<H
 }
 
 // The hosts that reach the node by the set.
-#[tactic(auto, using(crate::proofs::FilledLaws::filled_none, crate::proofs::FilledLaws::filled_in, crate::proofs::FilledLaws::filled_out))]
 pub fn reachers(
     alloc: Global,
     topology: &Topology,

@@ -5,4 +5,4 @@ use Rattle.pipe_topo.specs.Sets.{has}
 use Rattle.pipe_failtime.proofs.links.is_fed.Given as goal
 
 abbrev pub invariant-loop-host : goal.invariant-loop-host
-invariant-loop-host l = any_below (λ (h : ℕ). has l.kept h && feeds l.topology (has l.by) h l.link.0) l.host ≡ false
+invariant-loop-host l = any_below (λ (h : ℕ). has l.kept h && feeds l.topology (has l.by) h l.fn.link.0) l.host ≡ false

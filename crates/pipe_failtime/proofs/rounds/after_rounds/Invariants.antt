@@ -7,5 +7,5 @@ abbrev pub invariant-loop : goal.invariant-loop
 invariant-loop l = record {
   size : length l.doomed ≡ 64;
   rest : after_rounds l.reach.graph (has l.reach.by) (has l.members) (has l.doomed) (l.reach.graph.hosts - l.counter)
-      ≡ doomed l.reach.graph (has l.reach.by) (has l.members) (has l.before);
+      ≡ doomed l.reach.graph (has l.reach.by) (has l.members) (has l.fn.before);
 }
