@@ -36,10 +36,11 @@ fn has_strangers(reach: &Reach<'_>, left: &HostSet) -> bool
 }
 
 fn is_stranger(reach: &Reach<'_>, left: &HostSet, host: u16) -> bool
-    requires { host < reach.now.graph.hosts }
+    requires host { host < reach.now.graph.hosts }
+    requires small { host < 64 }
     ensures { result ≡ is_stranger reach.now.graph (has reach.now.by) (has left.now) host }
 {
-    is_left(reach, left, host) && lacks_partner(reach, left, host)
+    left.has(HostId(host)) && lacks_partner(reach, left, host)
 }
 
 #[tactic(auto, using(crate::proofs::TestLaws::none_more))]
@@ -69,10 +70,11 @@ fn first_to_go(reach: &Reach<'_>, left: &HostSet) -> Option<u16>
 
 fn goes_rather(reach: &Reach<'_>, left: &HostSet, first: Option<u16>, host: u16) -> bool
     requires host { host < reach.now.graph.hosts }
+    requires small { host < 64 }
     requires first { IfSome first (λ f. f < reach.now.graph.hosts) }
     ensures { result ≡ goes_rather reach.now.graph (has reach.now.by) (has left.now) first host }
 {
-    if !is_left(reach, left, host) {
+    if !left.has(HostId(host)) {
         return false;
     }
     match first {
@@ -82,14 +84,6 @@ fn goes_rather(reach: &Reach<'_>, left: &HostSet, first: Option<u16>, host: u16)
             &standing_of(reach, left, first),
         ),
     }
-}
-
-// The host is below 64, as all that are in reach.
-fn is_left(reach: &Reach<'_>, left: &HostSet, host: u16) -> bool
-    requires { host < reach.now.graph.hosts }
-    ensures { result ≡ has left.now host }
-{
-    host < reach.hosts() && left.has(HostId(host))
 }
 
 // How a host stands among those that are left.

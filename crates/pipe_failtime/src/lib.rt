@@ -9,6 +9,8 @@ mod links;
 mod reach;
 mod reported;
 mod rounds;
+#[cfg(test)]
+mod tests;
 mod time;
 
 pub use cut::is_cut;
