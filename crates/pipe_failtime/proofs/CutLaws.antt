@@ -1,11 +1,11 @@
 -- Lemmas on hosts that are cut off.
-use Rattle.std.proofs.Common.{◌≡◌, ℕ, ◌<◌, ◌≤◌, ◌==◌, Bool, true, false, ◌&&◌, ◌||◌, not, List, [], ◌∷◌, ◌++◌, length, Option, ◌⊎◌, inl, inr, refl, sym, subst, ◌∙◌, true≢false}
+use Rattle.std.proofs.Common.{◌≡◌, ℕ, ◌<◌, ◌==◌, Bool, true, false, ◌&&◌, ◌||◌, not, List, [], ◌∷◌, ◌++◌, length, Option, ◌⊎◌, inl, inr, refl, sym, ◌∙◌, true≢false}
 use Rattle.std.specs.List.{list_any}
 use Rattle.std.proofs.lemmas.Bool.{eqb-true}
 use Rattle.pipe_base.specs.declared.name.Ts.{Ts}
 use Rattle.pipe_base.specs.Below.{any_below}
 use Rattle.pipe_base.specs.Graph.{Graph, IsGraph, tail_of, head_of, is_half}
-use Rattle.pipe_base.specs.Path.{LeavesBy, Leads, IsPath}
+use Rattle.pipe_base.specs.Path.{Leads, IsPath}
 use Rattle.pipe_base.specs.Reach.{feeds, reaches}
 use Rattle.pipe_paths.proofs.BelowLaws.{none_below}
 use Rattle.pipe_paths.proofs.PathLaws.{path_append, path_more}

@@ -1,9 +1,9 @@
 -- Lemmas on tests of the numbers below a bound, and on how many pass.
-use Rattle.std.proofs.Common.{◌≡◌, ℕ, zero, suc, ◌+◌, ◌<◌, ◌≤◌, ◌==◌, nat_lt, Bool, true, false, ◌&&◌, if◌then◌else◌, refl, sym, ap, ◌∙◌, true≢false, arith}
+use Rattle.std.proofs.Common.{◌≡◌, ℕ, zero, suc, ◌+◌, ◌<◌, ◌≤◌, Bool, true, false, ◌&&◌, refl, sym, true≢false, arith}
 use Rattle.pipe_base.specs.Below.{any_below}
 use Rattle.pipe_paths.proofs.BelowLaws as paths
 use Rattle.pipe_paths.proofs.BelowLaws.{any_below_gives, count_gains}
-use Rattle.pipe_paths.proofs.Tests.{and_parts, not_from}
+use Rattle.pipe_paths.proofs.Tests.{not_from}
 use Rattle.pipe_failtime.specs.Count.{count_below}
 
 pub none_more : (p : ℕ → Bool) (k : ℕ) → any_below p k ≡ false → p k ≡ false → any_below p (k + 1) ≡ false

@@ -1,10 +1,9 @@
 -- Lemmas on useless links.
-use Rattle.std.proofs.Common.{◌≡◌, ℕ, ◌<◌, Bool, true, false, ◌&&◌, not, List, [], ◌∷◌, ◌++◌, length, refl, sym, ◌∙◌, true≢false}
-use Rattle.pipe_base.specs.Below.{any_below}
-use Rattle.pipe_base.specs.Graph.{Graph, IsGraph, head_of}
-use Rattle.pipe_base.specs.Path.{LeavesBy, Leads, IsPath}
+use Rattle.std.proofs.Common.{◌≡◌, ℕ, ◌<◌, Bool, true, false, ◌&&◌, not, List, ◌∷◌, ◌++◌, sym, ◌∙◌, true≢false}
+use Rattle.pipe_base.specs.Graph.{Graph, IsGraph}
+use Rattle.pipe_base.specs.Path.{IsPath}
 use Rattle.pipe_base.specs.Reach.{feeds}
-use Rattle.pipe_paths.proofs.BelowLaws.{any_below_from, none_below}
+use Rattle.pipe_paths.proofs.BelowLaws.{none_below}
 use Rattle.pipe_paths.proofs.Rounds.{fed_along}
 use Rattle.pipe_paths.proofs.Tests.{and_both, and_parts, not_gives, not_is, not_from}
 use Rattle.pipe_failtime.specs.Useless.{IsUseless, is_fed, is_useless}

@@ -5,7 +5,7 @@ use Rattle.pipe_base.specs.Graph.{Graph, is_host}
 use Rattle.pipe_base.specs.Reach.{reaches}
 use Rattle.pipe_failtime.specs.Count.{count_below}
 
--- the host is a member that is not doomed
+-- the host is one of the graph, a member, and not doomed
 abbrev pub is_left : Graph → (ℕ → Bool) → (ℕ → Bool) → ℕ → Bool
 is_left graph members doomed host = is_host graph host && (members host && not (doomed host))
 

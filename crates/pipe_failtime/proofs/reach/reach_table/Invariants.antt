@@ -1,5 +1,3 @@
-use Rattle.std.proofs.Common.{◌≡◌, ℕ, ◌<◌, ◌≤◌, Bool, List, [], length, get_or}
-use Rattle.pipe_base.specs.Reach.{reaches}
 use Rattle.pipe_topo.specs.Sets.{has}
 use Rattle.pipe_failtime.proofs.ReachingLaws.{IsPartTable}
 use Rattle.pipe_failtime.proofs.reach.reach_table.Given as goal
