@@ -3,6 +3,7 @@ pub mod Fault
 pub mod First
 pub mod Names
 pub mod Plan
+pub mod Reports
 pub mod Sets
 pub mod Star
 pub mod Tables

@@ -12,6 +12,7 @@ mod links;
 mod names;
 mod plan;
 mod reach;
+mod reports;
 mod shape;
 mod tables;
 #[cfg(test)]
@@ -27,4 +28,5 @@ pub use laws::{no_fault_is_small, no_fault_joins_all, plans_are_mirrored, stars_
 pub use links::LinkSet;
 pub use names::Names;
 pub use plan::{Cable, CableEnd, CableList, LevelList, Plan};
+pub use reports::Reports;
 pub use topology::Topology;

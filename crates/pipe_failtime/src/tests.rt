@@ -1,0 +1,223 @@
+// Who must go in three networks, by what was reported.
+ghost use Rattle.std.specs.Prelude.{◌≡◌, length, IfOk};
+
+use crate::{doomed, failure_time, is_cut, useless};
+use pipe_base::{HostId, LinkId, List, NoMemory, Ts};
+use pipe_topo::{CableEnd, HostSet, LinkSet, Plan, Reports, TopoFault, Topology};
+use std::alloc::Global;
+use std::process::Abort;
+
+// A cable between two ends: a host by its number, a switch by a hundred more.
+type Ends = (u16, u16);
+
+// A network with the reports of some links; who is doomed, and cut off then; failure times of some hosts; useless links.
+struct Case {
+    hosts: u16,
+    levels: &'static [u8],
+    cables: &'static [Ends],
+    reports: &'static [(u16, u64)],
+    doomed: &'static [u16],
+    times: &'static [(u16, Option<u64>)],
+    useless: &'static [u16],
+}
+
+static CASES: [Case; 3] = [
+    // Both ways up from a switch with two hosts, of five.
+    Case {
+        hosts: 5,
+        levels: &[1, 1, 2, 2],
+        cables: &[
+            (0, 100),
+            (1, 100),
+            (2, 101),
+            (3, 101),
+            (4, 101),
+            (100, 102),
+            (100, 103),
+            (101, 102),
+            (101, 103),
+        ],
+        reports: &[(10, 30), (12, 35)],
+        doomed: &[0, 1],
+        times: &[(0, Some(35)), (1, Some(35))],
+        useless: &[0, 2, 18],
+    },
+    // One of two ways between two hosts.
+    Case {
+        hosts: 2,
+        levels: &[1, 1, 2, 2],
+        cables: &[
+            (0, 100),
+            (1, 101),
+            (100, 102),
+            (100, 103),
+            (101, 102),
+            (101, 103),
+        ],
+        reports: &[(4, 0)],
+        doomed: &[],
+        times: &[(0, Some(0))],
+        useless: &[],
+    },
+    // A star without reports.
+    Case {
+        hosts: 2,
+        levels: &[1],
+        cables: &[(0, 100), (1, 100)],
+        reports: &[],
+        doomed: &[],
+        times: &[(0, None)],
+        useless: &[],
+    },
+];
+
+fn end_of(number: u16) -> CableEnd {
+    if number < 100 {
+        CableEnd::Host(number)
+    } else {
+        CableEnd::Switch(number - 100)
+    }
+}
+
+fn plan_of(alloc: Global, case: &Case) -> Result<Plan, NoMemory> {
+    let mut cables = List::new(alloc);
+    for (one, other) in case.cables {
+        cables.push((end_of(*one), end_of(*other)))?;
+    }
+    Ok(Plan {
+        hosts: case.hosts,
+        levels: List::from_vec(Vec::from_slice(alloc, case.levels)?),
+        cables,
+        patience: Ts(100),
+    })
+}
+
+fn build(rt: &impl Abort, alloc: Global, case: &Case) -> Result<Topology, TopoFault> {
+    let plan = plan_of(alloc, case)?;
+    assert!(rt; plan.has_ends() && plan.levels.len() < 1000 && plan.cables.len() < 1000);
+    Topology::build(alloc, &plan)
+}
+
+fn reports_of(
+    rt: &impl Abort,
+    alloc: Global,
+    links: u16,
+    values: &[(u16, u64)],
+) -> Result<Reports, NoMemory>
+    ensures { IfOk result (λ reports. length reports ≡ links) }
+{
+    let mut reports = Reports::none(alloc, links)?;
+    for (link, value) in values {
+        assert!(rt; *link < links);
+        reports.set(LinkId(*link), Ts(*value));
+    }
+    Ok(reports)
+}
+
+fn has(hosts: &HostSet, host: u16) -> bool {
+    host < 64 && hosts.has(HostId(host))
+}
+
+// The first so many hosts without those that are doomed.
+fn kept_of(rt: &impl Abort, hosts: u16, doomed: &HostSet) -> HostSet {
+    assert!(rt; hosts <= 64);
+    let mut kept = HostSet::first(hosts);
+    for host in 0..hosts {
+        if has(doomed, host) {
+            kept.remove(HostId(host));
+        }
+    }
+    kept
+}
+
+fn are(rt: &impl Abort, doomed: &HostSet, wanted: &[u16]) {
+    for host in 0..64 {
+        assert!(rt; has(doomed, host) == wanted.contains(&host));
+    }
+}
+
+fn are_cut(
+    rt: &impl Abort,
+    alloc: Global,
+    topology: &Topology,
+    live: &LinkSet,
+    reports: &Reports,
+    kept: &HostSet,
+    wanted: &[u16],
+) -> Result<(), NoMemory>
+    requires live { length live.now ≡ length topology.now.links }
+    requires reports { length reports.now ≡ length topology.now.links }
+{
+    for host in 0..topology.hosts() {
+        let cut = is_cut(alloc, topology, HostId(host), live, reports, kept)?;
+        assert!(rt; cut == wanted.contains(&host));
+    }
+    Ok(())
+}
+
+fn have_times(
+    rt: &impl Abort,
+    alloc: Global,
+    topology: &Topology,
+    live: &LinkSet,
+    reports: &Reports,
+    times: &[(u16, Option<u64>)],
+) -> Result<(), NoMemory>
+    requires live { length live.now ≡ length topology.now.links }
+    requires reports { length reports.now ≡ length topology.now.links }
+{
+    for (host, time) in times {
+        assert!(rt; *host < topology.hosts());
+        let found = failure_time(alloc, topology, HostId(*host), live, reports)?;
+        assert!(rt; found.map(|ts| ts.0) == *time);
+    }
+    Ok(())
+}
+
+fn are_useless(
+    rt: &impl Abort,
+    alloc: Global,
+    topology: &Topology,
+    live: &LinkSet,
+    reports: &Reports,
+    kept: &HostSet,
+    wanted: &[u16],
+) -> Result<(), NoMemory>
+    requires live { length live.now ≡ length topology.now.links }
+    requires reports { length reports.now ≡ length topology.now.links }
+{
+    let links = useless(alloc, topology, live, reports, kept)?;
+    for link in 0..topology.links() {
+        assert!(rt; links.has(LinkId(link)) == wanted.contains(&link));
+    }
+    Ok(())
+}
+
+fn holds(rt: &impl Abort, alloc: Global, case: &Case) -> Result<(), TopoFault> {
+    let topology = build(rt, alloc, case)?;
+    let live = LinkSet::all(alloc, topology.links())?;
+    let reports = reports_of(rt, alloc, topology.links(), case.reports)?;
+    let members = HostSet::first(topology.hosts());
+    let gone = doomed(
+        alloc,
+        &topology,
+        &members,
+        &live,
+        &reports,
+        &HostSet::none(),
+    )?;
+    let kept = kept_of(rt, topology.hosts(), &gone);
+    are(rt, &gone, case.doomed);
+    are_cut(rt, alloc, &topology, &live, &reports, &kept, case.doomed)?;
+    have_times(rt, alloc, &topology, &live, &reports, case.times)?;
+    are_useless(rt, alloc, &topology, &live, &reports, &kept, case.useless)?;
+    Ok(())
+}
+
+#[test]
+fn who_must_go(rt: HostRuntime) -> Result<(), TopoFault> {
+    for case in &CASES {
+        holds(&rt, rt.alloc(), case)?;
+    }
+    Ok(())
+}
