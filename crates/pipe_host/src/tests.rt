@@ -2,8 +2,8 @@
 
 use crate::Host;
 use pipe_base::{
-    Body, Fate, HostId, LAST_BARRIER, LAST_STAMP, LinkId, List, NodeId, Outcome, Packet, PacketKind,
-    Service, Step, Ts,
+    Body, Fate, HostId, LAST_BARRIER, LAST_STAMP, LinkId, List, NodeId, Outcome, Packet,
+    PacketKind, Service, Step, Ts,
 };
 use pipe_topo::{Plan, Topology};
 use std::alloc::Global;
@@ -47,7 +47,10 @@ fn logs_up_to_the_end_of_the_clock(rt: HostRuntime) -> Result<(), Fail> {
     let end = packet(alloc, PacketKind::Beacon, 0, LAST_BARRIER);
     host.take(LinkId(1), end, &mut step)?;
     assert_eq!(rt; (step.logged.len(), host.held().len()), (1, 0));
-    assert_eq!(rt; (host.next(), host.promise()), (Ts(LAST_BARRIER), Ts(LAST_BARRIER)));
+    assert_eq!(rt;
+        (host.next(), host.promise()),
+        (Ts(LAST_BARRIER), Ts(LAST_BARRIER))
+    );
     let mut dests = List::new(alloc);
     dests.push((HostId(0), Body::empty(alloc)))?;
     assert!(rt; dests.len() < 16);

@@ -1,9 +1,7 @@
 // What no clause says: that calls succeed with ample memory, and the steps of one half worked out by hand from the rules.
 
 use crate::Half;
-use pipe_base::{
-    Body, HostId, LinkId, NoMemory, NodeId, Outcome, Packet, PacketKind, Step, Ts,
-};
+use pipe_base::{Body, HostId, LinkId, NoMemory, NodeId, Outcome, Packet, PacketKind, Step, Ts};
 use pipe_topo::{Plan, Topology};
 use std::alloc::Global;
 use std::process::Abort;
@@ -51,9 +49,17 @@ fn passes_on_with_its_own_barriers(rt: HostRuntime) -> Result<(), Fail> {
     assert!(rt; topology.is_half(NodeId(2)));
     let mut half = Half::new(alloc, &topology, NodeId(2))?;
     let mut step = Step::new(alloc);
-    half.take(LinkId(0), packet(alloc, PacketKind::Plain, 10, 11), &mut step)?;
+    half.take(
+        LinkId(0),
+        packet(alloc, PacketKind::Plain, 10, 11),
+        &mut step,
+    )?;
     assert_eq!(rt; told(alloc, &step)?.as_slice(), [(4, 0, 0)].as_slice());
-    half.take(LinkId(2), packet(alloc, PacketKind::Beacon, 15, 15), &mut step)?;
+    half.take(
+        LinkId(2),
+        packet(alloc, PacketKind::Beacon, 15, 15),
+        &mut step,
+    )?;
     assert!(rt; told(alloc, &step)?.is_empty());
     half.tick(Ts(50), &mut step)?;
     assert_eq!(rt; told(alloc, &step)?.as_slice(), [(4, 10, 11)].as_slice());
@@ -64,7 +70,11 @@ fn passes_on_with_its_own_barriers(rt: HostRuntime) -> Result<(), Fail> {
         [(0, 11, 0), (2, 15, 0), (4, 15, 11)].as_slice()
     );
     let mut copy = half.try_clone()?;
-    copy.take(LinkId(2), packet(alloc, PacketKind::Plain, 20, 20), &mut step)?;
+    copy.take(
+        LinkId(2),
+        packet(alloc, PacketKind::Plain, 20, 20),
+        &mut step,
+    )?;
     assert_eq!(rt; step.outcome, Outcome::Ignored);
     Ok(())
 }
