@@ -5,7 +5,7 @@ use Rattle.std.proofs.lemmas.Bool.{eqb-true}
 use Rattle.pipe_base.specs.declared.name.Ts.{Ts}
 use Rattle.pipe_base.specs.Below.{any_below}
 use Rattle.pipe_base.specs.Graph.{Graph, IsGraph, tail_of, head_of, is_half}
-use Rattle.pipe_base.specs.Path.{Leads, IsPath}
+use Rattle.pipe_base.specs.Path.{LeavesBy, Leads, IsPath}
 use Rattle.pipe_base.specs.Reach.{feeds, reaches}
 use Rattle.pipe_paths.proofs.BelowLaws.{none_below}
 use Rattle.pipe_paths.proofs.PathLaws.{path_append, path_more}
@@ -15,72 +15,62 @@ use Rattle.pipe_failtime.specs.Cut.{IsCut, is_cut}
 use Rattle.pipe_failtime.specs.Reported.{is_reported, unreported}
 use Rattle.pipe_failtime.proofs.TestLaws.{and_fails, none_from}
 
+-- a link and what leads on from it by live links do so by unreported ones, or there is a reported link
+link_or_reported : (g : Graph) (live : ℕ → Bool) (reports : ℕ → Option Ts) (n b l : ℕ) (ls : List ℕ) → LeavesBy g live n l
+    → (list_any (is_reported reports) ls ≡ true) ⊎ Leads g (unreported live reports) (head_of g l) b ls
+    → (list_any (is_reported reports) (l ∷ ls) ≡ true) ⊎ (LeavesBy g (unreported live reports) n l × Leads g (unreported live reports) (head_of g l) b ls)
+link_or_reported g live reports n b l ls leaves rest = by_report (is_reported reports l) refl
+  where
+    by_report : (t : Bool) → is_reported reports l ≡ t
+        → (list_any (is_reported reports) (l ∷ ls) ≡ true) ⊎ (LeavesBy g (unreported live reports) n l × Leads g (unreported live reports) (head_of g l) b ls)
+    by_report true is = inl (or_left (is_reported reports l) (list_any (is_reported reports) ls) is)
+    by_report false isnt = elim rest [
+      | inl later ↦ inl (or_right (is_reported reports l) (list_any (is_reported reports) ls) later)
+      | inr way ↦ inr (
+        record {
+          known = leaves.known;
+          used = and_both (live l) (not (is_reported reports l)) leaves.used (not_gives (is_reported reports l) isnt);
+          begins = leaves.begins;
+        },
+        way,
+      )
+    ]
+
 -- a path by live links is one by unreported ones, or has a reported link
 leads_or_reported : (g : Graph) (live : ℕ → Bool) (reports : ℕ → Option Ts) (n b : ℕ) (ls : List ℕ) → Leads g live n b ls
     → (list_any (is_reported reports) ls ≡ true) ⊎ Leads g (unreported live reports) n b ls
 leads_or_reported g live reports n b [] leads = inr leads
 leads_or_reported g live reports n b (l ∷ ls) leads =
-    by_report (leads_or_reported g live reports (head_of g l) b ls leads.2) (is_reported reports l) refl
-  where
-    by_report : (list_any (is_reported reports) ls ≡ true) ⊎ Leads g (unreported live reports) (head_of g l) b ls
-        → (t : Bool) → is_reported reports l ≡ t → (list_any (is_reported reports) (l ∷ ls) ≡ true) ⊎ Leads g (unreported live reports) n b (l ∷ ls)
-    by_report rest true is = inl (or_left (is_reported reports l) (list_any (is_reported reports) ls) is)
-    by_report rest false isnt = elim rest [
-      | inl later ↦ inl (or_right (is_reported reports l) (list_any (is_reported reports) ls) later)
-      | inr way ↦ inr (
-        leads.0,
-        record {
-          known = leads.1.known;
-          used = and_both (live l) (not (is_reported reports l)) leads.1.used (not_gives (is_reported reports l) isnt);
-          begins = leads.1.begins;
-        },
-        way,
-      )
+    elim (link_or_reported g live reports n b l ls leads.1 (leads_or_reported g live reports (head_of g l) b ls leads.2)) [
+      | inl reported ↦ inl reported
+      | inr way ↦ inr (leads.0, way.0, way.1)
     ]
 
 path_or_reported : (g : Graph) (live : ℕ → Bool) (reports : ℕ → Option Ts) (a b : ℕ) (path : List ℕ) → IsPath g live a b path
     → (list_any (is_reported reports) path ≡ true) ⊎ IsPath g (unreported live reports) a b path
 path_or_reported g live reports a b [] path = absurd path
 path_or_reported g live reports a b (l ∷ ls) path =
-    by_report (leads_or_reported g live reports (head_of g l) b ls path.1) (is_reported reports l) refl
-  where
-    by_report : (list_any (is_reported reports) ls ≡ true) ⊎ Leads g (unreported live reports) (head_of g l) b ls
-        → (t : Bool) → is_reported reports l ≡ t → (list_any (is_reported reports) (l ∷ ls) ≡ true) ⊎ IsPath g (unreported live reports) a b (l ∷ ls)
-    by_report rest true is = inl (or_left (is_reported reports l) (list_any (is_reported reports) ls) is)
-    by_report rest false isnt = elim rest [
-      | inl later ↦ inl (or_right (is_reported reports l) (list_any (is_reported reports) ls) later)
-      | inr way ↦ inr (
-        record {
-          known = path.0.known;
-          used = and_both (live l) (not (is_reported reports l)) path.0.used (not_gives (is_reported reports l) isnt);
-          begins = path.0.begins;
-        },
-        way,
-      )
-    ]
+    link_or_reported g live reports a b l ls path.0 (leads_or_reported g live reports (head_of g l) b ls path.1)
 
 -- a path by unreported links has no reported link
-leads_unreported : (g : Graph) (live : ℕ → Bool) (reports : ℕ → Option Ts) (n b : ℕ) (ls : List ℕ) → Leads g (unreported live reports) n b ls → list_any (is_reported reports) ls ≡ false
-leads_unreported g live reports n b [] leads = refl
-leads_unreported g live reports n b (l ∷ ls) leads =
-    neither (is_reported reports l) (list_any (is_reported reports) ls)
-    (not_is (is_reported reports l) (and_parts (live l) (not (is_reported reports l)) leads.1.used).1)
-    (leads_unreported g live reports (head_of g l) b ls leads.2)
+link_unreported : (live : ℕ → Bool) (reports : ℕ → Option Ts) (l : ℕ) (ls : List ℕ) → unreported live reports l ≡ true → list_any (is_reported reports) ls ≡ false
+    → list_any (is_reported reports) (l ∷ ls) ≡ false
+link_unreported live reports l ls used rest =
+    neither (is_reported reports l) (list_any (is_reported reports) ls) (not_is (is_reported reports l) (and_parts (live l) (not (is_reported reports l)) used).1) rest
   where
     neither : (s t : Bool) → s ≡ false → t ≡ false → (s || t) ≡ false
     neither true t h k = absurd (true≢false h)
     neither false t h k = k
+
+leads_unreported : (g : Graph) (live : ℕ → Bool) (reports : ℕ → Option Ts) (n b : ℕ) (ls : List ℕ) → Leads g (unreported live reports) n b ls → list_any (is_reported reports) ls ≡ false
+leads_unreported g live reports n b [] leads = refl
+leads_unreported g live reports n b (l ∷ ls) leads =
+    link_unreported live reports l ls leads.1.used (leads_unreported g live reports (head_of g l) b ls leads.2)
 
 path_unreported : (g : Graph) (live : ℕ → Bool) (reports : ℕ → Option Ts) (a b : ℕ) (path : List ℕ) → IsPath g (unreported live reports) a b path → list_any (is_reported reports) path ≡ false
 path_unreported g live reports a b [] path = absurd path
 path_unreported g live reports a b (l ∷ ls) path =
-    neither (is_reported reports l) (list_any (is_reported reports) ls)
-    (not_is (is_reported reports l) (and_parts (live l) (not (is_reported reports l)) path.0.used).1)
-    (leads_unreported g live reports (head_of g l) b ls path.1)
-  where
-    neither : (s t : Bool) → s ≡ false → t ≡ false → (s || t) ≡ false
-    neither true t h k = absurd (true≢false h)
-    neither false t h k = k
+    link_unreported live reports l ls path.0.used (leads_unreported g live reports (head_of g l) b ls path.1)
 
 -- a host that is cut reaches no kept host
 pub cut_reaches_none : (g : Graph) (by kept : ℕ → Bool) (host end : ℕ) → is_cut g by kept host ≡ true → end < g.hosts → kept end ≡ true → reaches g by host end ≡ false

@@ -1,13 +1,13 @@
 -- Lemmas on the host that must go next: there is exactly one, where any is left.
-use Rattle.std.proofs.Common.{◌≡◌, ℕ, zero, suc, ◌<◌, ◌≤◌, ◌==◌, nat_lt, Bool, true, false, ◌&&◌, ◌||◌, not, if◌then◌else◌, Option, None, Some, ◌⊎◌, inl, inr, refl, sym, subst, ◌∙◌, true≢false, arith}
-use Rattle.std.proofs.lemmas.Bool.Decides.{eqb_tells, nat_tests}
+use Rattle.std.proofs.Common.{◌≡◌, ℕ, zero, suc, ◌<◌, ◌≤◌, ◌==◌, nat_lt, Bool, true, false, ◌&&◌, ◌||◌, not, if◌then◌else◌, Option, None, Some, inl, inr, refl, sym, subst, ◌∙◌, true≢false, arith}
+use Rattle.std.proofs.lemmas.Bool.Decides.{nat_tests}
 use Rattle.pipe_base.specs.Below.{any_below}
 use Rattle.pipe_base.specs.Graph.{Graph}
 use Rattle.pipe_paths.proofs.BelowLaws.{any_below_gives, none_below}
 use Rattle.pipe_paths.proofs.Tests.{and_parts, and_both, not_from, not_gives, not_is}
 use Rattle.pipe_failtime.specs.Doomed.{Standing, GoesNext, are_partners, goes_before, goes_next, has_strangers, standing_of}
 use Rattle.pipe_failtime.specs.First.{first_to_go, goes_rather, next_to_go}
-use Rattle.pipe_failtime.proofs.TestLaws.{none_from, and_fails}
+use Rattle.pipe_failtime.proofs.TestLaws.{below_next, none_from, and_fails}
 
 -- on plain numbers
 abbrev precedes : ℕ → ℕ → ℕ → ℕ → ℕ → ℕ → Bool
@@ -44,12 +44,6 @@ pub record IsFirst (g : Graph) (by left : ℕ → Bool) (bound host : ℕ) : Typ
 abbrev pub IsBest : Graph → (ℕ → Bool) → (ℕ → Bool) → ℕ → Option ℕ → Type 0
 IsBest g by left bound None = (b : ℕ) → b < bound → left b ≡ true → ⊥
 IsBest g by left bound (Some host) = IsFirst g by left bound host
-
-below_next : (n k : ℕ) → k < suc n → (k < n) ⊎ (k ≡ n)
-below_next n k lt = elim (eqb_tells k n) [
-  | inl same ↦ inr same.1
-  | inr other ↦ let apart = other.1 in inl (omega arith)
-]
 
 -- a host that goes rather than the first so far
 better : (g : Graph) (by left : ℕ → Bool) (n : ℕ) (first : Option ℕ) → IsBest g by left n first → goes_rather g by left first n ≡ true → IsFirst g by left (suc n) n

@@ -195,7 +195,7 @@ rounds_turn g by members gone new host count rest end next inside is one whole =
 abbrev pub AgreeBelow : ℕ → (ℕ → Bool) → (ℕ → Bool) → Type 0
 AgreeBelow bound s t = (n : ℕ) → n < bound → s n ≡ t n
 
-left_alike : (g : Graph) (members s t : ℕ → Bool) → AgreeBelow g.hosts s t → is_left g members s ≡ is_left g members t
+pub left_alike : (g : Graph) (members s t : ℕ → Bool) → AgreeBelow g.hosts s t → is_left g members s ≡ is_left g members t
 left_alike g members s t agree = λ i host. at host i
   where
     pick : (host : ℕ) (b : Bool) → is_host g host ≡ b → (b && (members host && not (s host))) ≡ (b && (members host && not (t host)))

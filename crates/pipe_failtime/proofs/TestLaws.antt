@@ -1,5 +1,6 @@
 -- Lemmas on tests of the numbers below a bound, and on how many pass.
-use Rattle.std.proofs.Common.{◌≡◌, ℕ, zero, suc, ◌+◌, ◌<◌, ◌≤◌, Bool, true, false, ◌&&◌, refl, sym, true≢false, arith}
+use Rattle.std.proofs.Common.{◌⊎◌, inl, inr, ◌≡◌, ℕ, zero, suc, ◌+◌, ◌<◌, ◌≤◌, Bool, true, false, ◌&&◌, refl, sym, true≢false, arith}
+use Rattle.std.proofs.lemmas.Bool.Decides.{eqb_tells}
 use Rattle.pipe_base.specs.Below.{any_below}
 use Rattle.pipe_paths.proofs.BelowLaws as paths
 use Rattle.pipe_paths.proofs.BelowLaws.{any_below_gives, count_gains}
@@ -19,12 +20,9 @@ pub and_fails : (s t : Bool) → (s && t) ≡ false → s ≡ true → t ≡ fal
 and_fails true t both is = both
 and_fails false t both is = absurd (true≢false (sym is))
 
-one_less : (p q : ℕ → Bool) (n : ℕ) → count_below p n ≡ paths.count_below p n → count_below p (suc n) ≡ paths.count_below p (suc n)
-one_less p q n same = omega arith
-
 same_count : (p : ℕ → Bool) (n : ℕ) → count_below p n ≡ paths.count_below p n
 same_count p zero = refl
-same_count p (suc n) = one_less p p n (same_count p n)
+same_count p (suc n) = omega (arith, same_count p n)
 
 -- fewer pass where each that passes passed before, and one passes no more
 pub count_falls : (p q : ℕ → Bool) (n j : ℕ) → ((k : ℕ) → k < n → p k ≡ true → q k ≡ true) → j < n → p j ≡ false → q j ≡ true → count_below p n + 1 ≤ count_below q n
@@ -38,3 +36,9 @@ none_counted p n none k lt is =
 
 pub count_most : (p : ℕ → Bool) (n : ℕ) → count_below p n ≤ n
 count_most p n = omega (arith, same_count p n, paths.count_most p n)
+
+pub below_next : (n k : ℕ) → k < suc n → (k < n) ⊎ (k ≡ n)
+below_next n k lt = elim (eqb_tells k n) [
+  | inl same ↦ inr same.1
+  | inr other ↦ let apart = other.1 in inl (omega arith)
+]

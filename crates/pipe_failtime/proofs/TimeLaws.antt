@@ -1,22 +1,17 @@
 -- Lemmas on failure times: the value is the greatest of those that were reported.
 use Rattle.std.proofs.Common.{◌≡◌, ℕ, zero, suc, ◌<◌, ◌≤◌, max, Bool, true, false, ◌&&◌, if◌then◌else◌, length, Option, None, Some, ◌⊎◌, inl, inr, refl, sym, ap, subst, ◌∙◌, arith}
-use Rattle.std.proofs.lemmas.Bool.Decides.{eqb_tells, leb_tells}
+use Rattle.std.proofs.lemmas.Bool.Decides.{leb_tells}
 use Rattle.pipe_base.specs.declared.name.Ts.{Ts}
 use Rattle.pipe_base.specs.Graph.{Graph}
 use Rattle.pipe_base.specs.Reach.{feeds}
 use Rattle.pipe_paths.proofs.Tests.{and_both, and_parts}
 use Rattle.pipe_failtime.specs.FailureTime.{IsFailureTime, IsFedReport, failure_time, fed_report, later, latest_below}
+use Rattle.pipe_failtime.proofs.TestLaws.{below_next}
 
 -- what the latest time below a bound is: one of the times, and none is later; or there is none
 abbrev IsLatest : (ℕ → Option Ts) → ℕ → Option Ts → Type 0
 IsLatest time n None = (k : ℕ) → k < n → time k ≡ None
 IsLatest time n (Some latest) = ((k : ℕ) × (k < n) × (time k ≡ Some latest)) × ((k : ℕ) (other : Ts) → k < n → time k ≡ Some other → other.0 ≤ latest.0)
-
-below_next : (n k : ℕ) → k < suc n → (k < n) ⊎ (k ≡ n)
-below_next n k lt = elim (eqb_tells k n) [
-  | inl same ↦ inr same.1
-  | inr other ↦ let apart = other.1 in inl (omega arith)
-]
 
 either : (a b : ℕ) → (a ≤ b) ⊎ (b ≤ a)
 either a b = elim (leb_tells a b) [
