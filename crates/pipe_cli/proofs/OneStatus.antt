@@ -7,9 +7,10 @@ use Rattle.std.proofs.lemmas.List.Sums.{sum_by-append}
 use Rattle.pipe_base.specs.declared.fault.Size.{Size}
 use Rattle.pipe_base.specs.declared.fault.Size.TheVariants.{Bytes, Events, Items}
 use Rattle.pipe_base.specs.Graph.{Graph}
+use Rattle.pipe_base.specs.Limits.{most_items}
 use Rattle.pipe_model.specs.declared.event.Event.{Event}
 use Rattle.pipe_model.specs.declared.record.Record.{Record}
-use Rattle.pipe_model.specs.Items.{items_in, items_of, most_items}
+use Rattle.pipe_model.specs.Items.{items_in, items_of}
 use Rattle.pipe_model.specs.Run.{IsHistory, IsRun, event_of}
 use Rattle.pipe_model_net.proofs.Determined.{run_same}
 use Rattle.pipe_text_input.specs.Content.{Content}
@@ -78,8 +79,8 @@ never_stops graph events trace items run within stopped =
       ap items_of front_is,
       sum_by-append items_in first.front first.back,
       sum_by-append items_in stopped.trace (over.next ∷ []),
-      over.items_are,
-      over.many,
+      over.over.items_are,
+      over.over.many,
       within,
     )
 
@@ -106,7 +107,7 @@ module _ (X : Type 0) where
 stops_later : (graph : Graph) (events : List Event) (items more : ℕ) (one : IsStopped graph events items) (other : IsStopped graph events more) (m : List Event)
     → other.before ≡ one.before ++ one.event ∷ m → ⊥
 stops_later graph events items more one other m is =
-    never_stops graph other.before other.trace items other.run other.overfills.within
+    never_stops graph other.before other.trace items other.run other.overfills.over.within
     (record { before = one.before; event = one.event; after = m; events_are = is; trace = one.trace; run = one.run; overfills = one.overfills })
 
 stops_once : (graph : Graph) (events : List Event) (items more : ℕ) → IsStopped graph events items → IsStopped graph events more → items ≡ more
@@ -126,7 +127,7 @@ stops_once graph events items more one other =
             run_same graph (over.next ∷ reverse one.trace) (under.next ∷ reverse other.trace) more_runs under_runs
             (cc (over.event_is, under.event_is, both.1, traces)) in
             let nexts : over.next ≡ under.next = cc in
-            omega (arith, over.items_are, under.items_are, ap items_of traces, ap items_in nexts)
+            omega (arith, over.over.items_are, under.over.items_are, ap items_of traces, ap items_in nexts)
       ]
     ]
 
