@@ -1,5 +1,5 @@
 -- Lemmas on statuses.
-use Rattle.std.proofs.Common.{◌≡◌, ◌⊎◌, ℕ, ◌≤◌, Bool, true, false, List, [], ◌++◌, length, reverse, take, Option, None, Some, refl, ap, sym, subst, ◌∙◌, arith, inl, inr, append-nil, nat_lt, if◌then◌else◌}
+use Rattle.std.proofs.Common.{◌≡◌, ◌⊎◌, ℕ, ◌≤◌, Bool, true, false, List, [], ◌++◌, length, take, Option, None, Some, refl, ap, sym, subst, ◌∙◌, arith, inl, inr, append-nil, nat_lt, if◌then◌else◌}
 use Rattle.std.specs.Prelude.{Result}
 use Rattle.std.specs.Prelude as result
 use Rattle.std.proofs.lemmas.Bool.{cases_lt}
