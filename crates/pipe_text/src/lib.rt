@@ -14,9 +14,8 @@ pub use kind::LineKind;
 pub use line::next_line;
 pub use log::{print_body, print_log_head, print_log_line, service_word};
 pub use number::{numbers_are_as_printed, read_number};
-pub use word::{is_skipped, words_of};
-
 use pipe_base::List;
+pub use word::{is_skipped, words_of};
 
 /// A text, as its bytes.
 pub type Text = List<u8>;
