@@ -3,86 +3,91 @@ ghost use Rattle.std.specs.Prelude.{◌≡◌, ◌++◌, [], ◌∷◌, map, OnO
 ghost use Rattle.pipe_text_trace.specs.Control.{addressed_words, announced_word, control_words, link_word, receiver_word};
 ghost use Rattle.pipe_text_trace.specs.Line.{next_words};
 
-use crate::node::{host, node};
-use crate::word::{number, word};
+use crate::node::{print_host, print_node};
+use crate::word::{print_number, print_word};
 use itoa::Buffer;
 use pipe_base::{Addressed, Announced, Control, LinkId, NoMemory, To};
 use pipe_topo::Names;
 
-fn announced(out: &mut Vec<u8>, names: &Names, announced: Announced) -> Result<(), NoMemory>
+fn print_announced(out: &mut Vec<u8>, names: &Names, announced: Announced) -> Result<(), NoMemory>
     ensures { OnOk result (out.new.items ≡ out.old.items ++ next_words (announced_word names.now announced ∷ [])) }
 {
-    host(out, names, announced.host)?;
+    print_host(out, names, announced.host)?;
     out.push(b':')?;
     out.extend_from_slice(Buffer::new().format(announced.time.0).as_bytes())?;
     Ok(())
 }
 
-fn all_announced(out: &mut Vec<u8>, names: &Names, list: &[Announced]) -> Result<(), NoMemory>
+fn print_all_announced(out: &mut Vec<u8>, names: &Names, list: &[Announced]) -> Result<(), NoMemory>
     ensures { OnOk result (out.new.items ≡ out.old.items ++ next_words (map (announced_word names.now) list.now)) }
 {
     'list: for entry in list {
-        announced(out, names, *entry)?;
+        print_announced(out, names, *entry)?;
     }
     Ok(())
 }
 
-fn links(out: &mut Vec<u8>, links: &[LinkId]) -> Result<(), NoMemory>
+fn print_links(out: &mut Vec<u8>, links: &[LinkId]) -> Result<(), NoMemory>
     ensures { OnOk result (out.new.items ≡ out.old.items ++ next_words (map link_word links.now)) }
 {
     'links: for link in links {
-        number(out, link.0)?;
+        print_number(out, link.0)?;
     }
     Ok(())
 }
 
-fn control(out: &mut Vec<u8>, names: &Names, hosts: u16, control: &Control) -> Result<(), NoMemory>
+fn print_control(
+    out: &mut Vec<u8>,
+    names: &Names,
+    hosts: u16,
+    control: &Control,
+) -> Result<(), NoMemory>
     ensures { OnOk result (out.new.items ≡ out.old.items ++ next_words (control_words names.now hosts control.now)) }
 {
     match control {
         Control::Down { link, value } => {
-            word(out, b"down")?;
-            number(out, link.0)?;
-            number(out, value.0)
+            print_word(out, b"down")?;
+            print_number(out, link.0)?;
+            print_number(out, value.0)
         }
         Control::Freeze { link } => {
-            word(out, b"freeze")?;
-            number(out, link.0)
+            print_word(out, b"freeze")?;
+            print_number(out, link.0)
         }
         Control::Notice { list } => {
-            word(out, b"notice")?;
-            number(out, list.len())?;
-            all_announced(out, names, list.as_slice())
+            print_word(out, b"notice")?;
+            print_number(out, list.len())?;
+            print_all_announced(out, names, list.as_slice())
         }
-        Control::Done { host: done, count } => {
-            word(out, b"done")?;
-            host(out, names, *done)?;
-            number(out, *count)
+        Control::Done { host, count } => {
+            print_word(out, b"done")?;
+            print_host(out, names, *host)?;
+            print_number(out, *count)
         }
-        Control::DropLinks { links: dropped } => {
-            word(out, b"drop")?;
-            number(out, dropped.len())?;
-            links(out, dropped.as_slice())
+        Control::DropLinks { links } => {
+            print_word(out, b"drop")?;
+            print_number(out, links.len())?;
+            print_links(out, links.as_slice())
         }
-        Control::Gone { node: gone, count } => {
-            word(out, b"gone")?;
-            node(out, names, hosts, *gone)?;
-            number(out, *count)
+        Control::Gone { node, count } => {
+            print_word(out, b"gone")?;
+            print_node(out, names, hosts, *node)?;
+            print_number(out, *count)
         }
     }
 }
 
-fn receiver(out: &mut Vec<u8>, names: &Names, hosts: u16, to: To) -> Result<(), NoMemory>
+fn print_receiver(out: &mut Vec<u8>, names: &Names, hosts: u16, to: To) -> Result<(), NoMemory>
     ensures { OnOk result (out.new.items ≡ out.old.items ++ next_words (receiver_word names.now hosts to ∷ [])) }
 {
     match to {
-        To::Controller => word(out, b"controller"),
-        To::Node(told) => node(out, names, hosts, told),
+        To::Controller => print_word(out, b"controller"),
+        To::Node(node) => print_node(out, names, hosts, node),
     }
 }
 
 /// Appends the words of a control message with its receiver.
-pub fn addressed(
+pub fn print_addressed(
     out: &mut Vec<u8>,
     names: &Names,
     hosts: u16,
@@ -90,7 +95,7 @@ pub fn addressed(
 ) -> Result<(), NoMemory>
     ensures { OnOk result (out.new.items ≡ out.old.items ++ next_words (addressed_words names.now hosts addressed.now)) }
 {
-    word(out, b"to")?;
-    receiver(out, names, hosts, addressed.to)?;
-    control(out, names, hosts, &addressed.control)
+    print_word(out, b"to")?;
+    print_receiver(out, names, hosts, addressed.to)?;
+    print_control(out, names, hosts, &addressed.control)
 }

@@ -6,32 +6,37 @@ ghost use Rattle.pipe_text_trace.specs.Event.{dest_word, detail_words, event_wor
 ghost use Rattle.pipe_text_trace.specs.Line.{next_words};
 ghost use Rattle.pipe_text_trace.specs.TraceText.{event_text};
 
-use crate::node::{host, node};
-use crate::word::{end_line, first_word, number, word};
+use crate::node::{print_host, print_node};
+use crate::word::{print_first_word, print_line_end, print_number, print_word};
 use pipe_base::{Body, Dest, HostId, List, NoMemory, Service, Ts};
 use pipe_model::Event;
 use pipe_text::{Text, print_hex, service_word};
 use pipe_topo::Names;
 use std::alloc::Global;
 
-fn dest(out: &mut Vec<u8>, names: &Names, receiver: HostId, body: &Body) -> Result<(), NoMemory>
+fn print_dest(
+    out: &mut Vec<u8>,
+    names: &Names,
+    receiver: HostId,
+    body: &Body,
+) -> Result<(), NoMemory>
     ensures { OnOk result (out.new.items ≡ out.old.items ++ next_words (dest_word names.now (receiver, body.now) ∷ [])) }
 {
-    host(out, names, receiver)?;
+    print_host(out, names, receiver)?;
     out.push(b'=')?;
     print_hex(out, body.bytes())
 }
 
-fn dests(out: &mut Vec<u8>, names: &Names, dests: &[Dest]) -> Result<(), NoMemory>
+fn print_dests(out: &mut Vec<u8>, names: &Names, dests: &[Dest]) -> Result<(), NoMemory>
     ensures { OnOk result (out.new.items ≡ out.old.items ++ next_words (map (dest_word names.now) dests.now)) }
 {
     'dests: for (receiver, body) in dests {
-        dest(out, names, *receiver, body)?;
+        print_dest(out, names, *receiver, body)?;
     }
     Ok(())
 }
 
-fn sending(
+fn print_sending(
     out: &mut Vec<u8>,
     names: &Names,
     sender: HostId,
@@ -40,15 +45,19 @@ fn sending(
 ) -> Result<(), NoMemory>
     ensures { OnOk result (out.new.items ≡ out.old.items ++ next_words (name_of names.now sender.0 ∷ service_word service ∷ decimal now.0 ∷ [])) }
 {
-    host(out, names, sender)?;
-    word(out, service_word(service))?;
-    number(out, now.0)
+    print_host(out, names, sender)?;
+    print_word(out, service_word(service))?;
+    print_number(out, now.0)
 }
 
-fn keeping(out: &mut Vec<u8>, keep: bool) -> Result<(), NoMemory>
+fn print_keep(out: &mut Vec<u8>, keep: bool) -> Result<(), NoMemory>
     ensures { OnOk result (out.new.items ≡ out.old.items ++ next_words (keep_words keep)) }
 {
-    if keep { word(out, b"keep") } else { Ok(()) }
+    if keep {
+        print_word(out, b"keep")
+    } else {
+        Ok(())
+    }
 }
 
 fn verb_word(event: &Event) -> &'static [u8]
@@ -67,7 +76,12 @@ fn verb_word(event: &Event) -> &'static [u8]
     }
 }
 
-fn details(out: &mut Vec<u8>, names: &Names, hosts: u16, event: &Event) -> Result<(), NoMemory>
+fn print_details(
+    out: &mut Vec<u8>,
+    names: &Names,
+    hosts: u16,
+    event: &Event,
+) -> Result<(), NoMemory>
     ensures { OnOk result (out.new.items ≡ out.old.items ++ next_words (detail_words names.now hosts event.now)) }
 {
     match event {
@@ -75,41 +89,41 @@ fn details(out: &mut Vec<u8>, names: &Names, hosts: u16, event: &Event) -> Resul
             host,
             service,
             now,
-            dests: receivers,
+            dests,
         } => {
-            sending(out, names, *host, *service, *now)?;
-            dests(out, names, receivers.as_slice())
+            print_sending(out, names, *host, *service, *now)?;
+            print_dests(out, names, dests.as_slice())
         }
-        Event::Tick { node: ticking, now } => {
-            node(out, names, hosts, *ticking)?;
-            number(out, now.0)
+        Event::Tick { node, now } => {
+            print_node(out, names, hosts, *node)?;
+            print_number(out, now.0)
         }
         Event::Take { link, place, keep } => {
-            number(out, link.0)?;
-            number(out, *place)?;
-            keeping(out, *keep)
+            print_number(out, link.0)?;
+            print_number(out, *place)?;
+            print_keep(out, *keep)
         }
         Event::Lose { link, place } => {
-            number(out, link.0)?;
-            number(out, *place)
+            print_number(out, link.0)?;
+            print_number(out, *place)
         }
         Event::ControlTake { place, keep } => {
-            word(out, b"take")?;
-            number(out, *place)?;
-            keeping(out, *keep)
+            print_word(out, b"take")?;
+            print_number(out, *place)?;
+            print_keep(out, *keep)
         }
         Event::ControlLose { place } => {
-            word(out, b"lose")?;
-            number(out, *place)
+            print_word(out, b"lose")?;
+            print_number(out, *place)
         }
         Event::Decide => Ok(()),
-        Event::Crash { node: crashed } => node(out, names, hosts, *crashed),
-        Event::Cut { link } => number(out, link.0),
+        Event::Crash { node } => print_node(out, names, hosts, *node),
+        Event::Cut { link } => print_number(out, link.0),
     }
 }
 
 /// Appends the words of an event after another word of the line.
-pub fn event_after(
+pub fn print_event_after(
     out: &mut Vec<u8>,
     names: &Names,
     hosts: u16,
@@ -117,8 +131,8 @@ pub fn event_after(
 ) -> Result<(), NoMemory>
     ensures { OnOk result (out.new.items ≡ out.old.items ++ next_words (event_words names.now hosts event.now)) }
 {
-    word(out, verb_word(event))?;
-    details(out, names, hosts, event)
+    print_word(out, verb_word(event))?;
+    print_details(out, names, hosts, event)
 }
 
 /// An event as a line of a schedule, with its line feed. The names of the `hosts` hosts come first; a name that is not
@@ -132,8 +146,8 @@ pub fn print_event(
     ensures { IfOk result (λ text. text ≡ event_text names.now hosts event.now) }
 {
     let mut out = Vec::new(alloc);
-    first_word(&mut out, verb_word(event))?;
-    details(&mut out, names, hosts, event)?;
-    end_line(&mut out)?;
+    print_first_word(&mut out, verb_word(event))?;
+    print_details(&mut out, names, hosts, event)?;
+    print_line_end(&mut out)?;
     Ok(List::from_vec(out))
 }

@@ -4,7 +4,7 @@ ghost use Rattle.pipe_text.specs.Name.{name_of};
 ghost use Rattle.pipe_text_trace.specs.Line.{next_words};
 ghost use Rattle.pipe_text_trace.specs.Node.{half_text, node_name};
 
-use crate::word;
+use crate::word::print_word;
 use pipe_base::{HostId, NoMemory, NodeId};
 use pipe_topo::Names;
 
@@ -16,10 +16,10 @@ pub fn name_of(names: &Names, at: u16) -> &str
 }
 
 /// A host after another word.
-pub fn host(out: &mut Vec<u8>, names: &Names, host: HostId) -> Result<(), NoMemory>
+pub fn print_host(out: &mut Vec<u8>, names: &Names, host: HostId) -> Result<(), NoMemory>
     ensures { OnOk result (out.new.items ≡ out.old.items ++ next_words (name_of names.now host.0 ∷ [])) }
 {
-    word::word(out, name_of(names, host.0).as_bytes())
+    print_word(out, name_of(names, host.0).as_bytes())
 }
 
 fn half_text(place: u16) -> &'static [u8]
@@ -29,14 +29,19 @@ fn half_text(place: u16) -> &'static [u8]
 }
 
 /// A node after another word.
-pub fn node(out: &mut Vec<u8>, names: &Names, hosts: u16, node: NodeId) -> Result<(), NoMemory>
+pub fn print_node(
+    out: &mut Vec<u8>,
+    names: &Names,
+    hosts: u16,
+    node: NodeId,
+) -> Result<(), NoMemory>
     ensures { OnOk result (out.new.items ≡ out.old.items ++ next_words (node_name names.now hosts node.0 ∷ [])) }
 {
     if node.0 < hosts {
-        return word::word(out, name_of(names, node.0).as_bytes());
+        return print_word(out, name_of(names, node.0).as_bytes());
     }
     let half = node.0 - hosts;
-    word::word(out, name_of(names, hosts + half / 2).as_bytes())?;
+    print_word(out, name_of(names, hosts + half / 2).as_bytes())?;
     out.extend_from_slice(half_text(half % 2))?;
     Ok(())
 }

@@ -3,8 +3,8 @@ ghost use Rattle.std.specs.Prelude.{◌≡◌, ◌++◌, [], ◌∷◌, OnOk};
 ghost use Rattle.pipe_text_trace.specs.Line.{next_words};
 ghost use Rattle.pipe_text_trace.specs.Packet.{barrier_words, carried_words, kind_word, message_words, packet_words};
 
-use crate::node::host;
-use crate::word::{body, number, word};
+use crate::node::print_host;
+use crate::word::{print_body, print_number, print_word};
 use pipe_base::{NoMemory, Packet, PacketKind};
 use pipe_topo::Names;
 
@@ -21,41 +21,41 @@ fn kind_word(kind: PacketKind) -> &'static [u8]
     }
 }
 
-fn barriers(out: &mut Vec<u8>, packet: &Packet) -> Result<(), NoMemory>
+fn print_barriers(out: &mut Vec<u8>, packet: &Packet) -> Result<(), NoMemory>
     ensures { OnOk result (out.new.items ≡ out.old.items ++ next_words (barrier_words packet.now [])) }
 {
-    number(out, packet.be.0)?;
-    number(out, packet.commit.0)
+    print_number(out, packet.be.0)?;
+    print_number(out, packet.commit.0)
 }
 
-fn message(out: &mut Vec<u8>, names: &Names, packet: &Packet) -> Result<(), NoMemory>
+fn print_message(out: &mut Vec<u8>, names: &Names, packet: &Packet) -> Result<(), NoMemory>
     ensures { OnOk result (out.new.items ≡ out.old.items ++ next_words (message_words names.now packet.now [])) }
 {
-    host(out, names, packet.src)?;
-    host(out, names, packet.dst)?;
-    number(out, packet.ts.0)?;
-    barriers(out, packet)
+    print_host(out, names, packet.src)?;
+    print_host(out, names, packet.dst)?;
+    print_number(out, packet.ts.0)?;
+    print_barriers(out, packet)
 }
 
-fn carried(out: &mut Vec<u8>, names: &Names, packet: &Packet) -> Result<(), NoMemory>
+fn print_carried(out: &mut Vec<u8>, names: &Names, packet: &Packet) -> Result<(), NoMemory>
     ensures { OnOk result (out.new.items ≡ out.old.items ++ next_words (carried_words names.now packet.now.kind packet.now)) }
 {
     match packet.kind {
-        PacketKind::Beacon => barriers(out, packet),
+        PacketKind::Beacon => print_barriers(out, packet),
         PacketKind::Plain | PacketKind::Prepare => {
-            message(out, names, packet)?;
-            body(out, packet.body.bytes())
+            print_message(out, names, packet)?;
+            print_body(out, packet.body.bytes())
         }
         PacketKind::Ack | PacketKind::Recall | PacketKind::RecallAck => {
-            message(out, names, packet)
+            print_message(out, names, packet)
         }
     }
 }
 
 /// Appends the words of a packet.
-pub fn packet(out: &mut Vec<u8>, names: &Names, packet: &Packet) -> Result<(), NoMemory>
+pub fn print_packet(out: &mut Vec<u8>, names: &Names, packet: &Packet) -> Result<(), NoMemory>
     ensures { OnOk result (out.new.items ≡ out.old.items ++ next_words (packet_words names.now packet.now)) }
 {
-    word(out, kind_word(packet.kind))?;
-    carried(out, names, packet)
+    print_word(out, kind_word(packet.kind))?;
+    print_carried(out, names, packet)
 }

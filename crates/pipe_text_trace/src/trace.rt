@@ -4,19 +4,19 @@ ghost use Rattle.pipe_text_trace.specs.Line.{lines_text};
 ghost use Rattle.pipe_text_trace.specs.TraceText.{records_lines, trace_text};
 
 use crate::record::print_record;
-use crate::word::{end_line, first_word, number};
+use crate::word::{print_first_word, print_line_end, print_number};
 use pipe_base::{List, NoMemory};
 use pipe_model::{Record, Trace};
 use pipe_text::Text;
 use pipe_topo::Names;
 use std::alloc::Global;
 
-fn head_line(out: &mut Vec<u8>, records: usize) -> Result<(), NoMemory>
+fn print_head(out: &mut Vec<u8>, records: usize) -> Result<(), NoMemory>
     ensures { OnOk result (out.new.items ≡ out.old.items ++ lines_text ((codes "trace" ∷ decimal records ∷ []) ∷ [])) }
 {
-    first_word(out, b"trace")?;
-    number(out, records)?;
-    end_line(out)
+    print_first_word(out, b"trace")?;
+    print_number(out, records)?;
+    print_line_end(out)
 }
 
 fn print_records(
@@ -33,11 +33,11 @@ fn print_records(
     Ok(())
 }
 
-fn last_line(out: &mut Vec<u8>) -> Result<(), NoMemory>
+fn print_last_line(out: &mut Vec<u8>) -> Result<(), NoMemory>
     ensures { OnOk result (out.new.items ≡ out.old.items ++ lines_text ((codes "end" ∷ []) ∷ [])) }
 {
-    first_word(out, b"end")?;
-    end_line(out)
+    print_first_word(out, b"end")?;
+    print_line_end(out)
 }
 
 /// All that happened, record by record, in one pass. The names of the `hosts` hosts come first; a name that is not there is
@@ -51,8 +51,8 @@ pub fn print_trace(
     ensures { IfOk result (λ text. text ≡ trace_text names.now hosts trace.now) }
 {
     let mut out = Vec::new(alloc);
-    head_line(&mut out, trace.len())?;
+    print_head(&mut out, trace.len())?;
     print_records(&mut out, names, hosts, trace.as_slice())?;
-    last_line(&mut out)?;
+    print_last_line(&mut out)?;
     Ok(List::from_vec(out))
 }

@@ -7,7 +7,7 @@ use itoa::{Buffer, Integer};
 use pipe_base::NoMemory;
 
 /// The first word of a line.
-pub fn first_word(out: &mut Vec<u8>, word: &[u8]) -> Result<(), NoMemory>
+pub fn print_first_word(out: &mut Vec<u8>, word: &[u8]) -> Result<(), NoMemory>
     ensures { OnOk result (out.new.items ≡ out.old.items ++ word.now) }
 {
     out.extend_from_slice(word)?;
@@ -15,7 +15,7 @@ pub fn first_word(out: &mut Vec<u8>, word: &[u8]) -> Result<(), NoMemory>
 }
 
 /// A word after another one.
-pub fn word(out: &mut Vec<u8>, word: &[u8]) -> Result<(), NoMemory>
+pub fn print_word(out: &mut Vec<u8>, word: &[u8]) -> Result<(), NoMemory>
     ensures { OnOk result (out.new.items ≡ out.old.items ++ next_words (word.now ∷ [])) }
 {
     out.push(b' ')?;
@@ -24,14 +24,14 @@ pub fn word(out: &mut Vec<u8>, word: &[u8]) -> Result<(), NoMemory>
 }
 
 /// A number after another word.
-pub fn number<N: Integer>(out: &mut Vec<u8>, number: N) -> Result<(), NoMemory>
+pub fn print_number<N: Integer>(out: &mut Vec<u8>, number: N) -> Result<(), NoMemory>
     ensures { OnOk result (out.new.items ≡ out.old.items ++ next_words (N.text number ∷ [])) }
 {
-    word(out, Buffer::new().format(number).as_bytes())
+    print_word(out, Buffer::new().format(number).as_bytes())
 }
 
 /// A body after another word: an empty one is `-`.
-pub fn body(out: &mut Vec<u8>, body: &[u8]) -> Result<(), NoMemory>
+pub fn print_body(out: &mut Vec<u8>, body: &[u8]) -> Result<(), NoMemory>
     ensures { OnOk result (out.new.items ≡ out.old.items ++ next_words (body_text body.now ∷ [])) }
 {
     out.push(b' ')?;
@@ -39,7 +39,7 @@ pub fn body(out: &mut Vec<u8>, body: &[u8]) -> Result<(), NoMemory>
 }
 
 /// The end of a line.
-pub fn end_line(out: &mut Vec<u8>) -> Result<(), NoMemory>
+pub fn print_line_end(out: &mut Vec<u8>) -> Result<(), NoMemory>
     ensures { OnOk result (out.new.items ≡ out.old.items ++ codes "\n") }
 {
     out.push(b'\n')?;

@@ -1,7 +1,7 @@
 use Rattle.std.proofs.Common.{◌≡◌, ◌++◌, drop, map}
 use Rattle.pipe_text_trace.specs.Line.{lines_text}
 use Rattle.pipe_text_trace.specs.Record.{control_line}
-use Rattle.pipe_text_trace.proofs.record.control_lines.Given as goal
+use Rattle.pipe_text_trace.proofs.record.print_control_lines.Given as goal
 
 abbrev pub invariant-control : goal.invariant-control
 invariant-control l =

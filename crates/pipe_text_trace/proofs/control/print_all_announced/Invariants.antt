@@ -1,7 +1,7 @@
 use Rattle.std.proofs.Common.{◌≡◌, ◌++◌, drop, map}
 use Rattle.pipe_text_trace.specs.Line.{next_words}
 use Rattle.pipe_text_trace.specs.Control.{announced_word}
-use Rattle.pipe_text_trace.proofs.control.all_announced.Given as goal
+use Rattle.pipe_text_trace.proofs.control.print_all_announced.Given as goal
 
 abbrev pub invariant-list : goal.invariant-list
 invariant-list l =

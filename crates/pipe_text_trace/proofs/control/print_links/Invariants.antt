@@ -1,7 +1,7 @@
 use Rattle.std.proofs.Common.{◌≡◌, ◌++◌, drop, map}
 use Rattle.pipe_text_trace.specs.Line.{next_words}
 use Rattle.pipe_text_trace.specs.Control.{link_word}
-use Rattle.pipe_text_trace.proofs.control.links.Given as goal
+use Rattle.pipe_text_trace.proofs.control.print_links.Given as goal
 
 abbrev pub invariant-links : goal.invariant-links
 invariant-links l =

@@ -1,7 +1,7 @@
 use Rattle.std.proofs.Common.{◌≡◌, ◌++◌, drop, map}
 use Rattle.pipe_text_trace.specs.Line.{lines_text}
 use Rattle.pipe_text_trace.specs.Record.{noted_line}
-use Rattle.pipe_text_trace.proofs.record.noted_lines.Given as goal
+use Rattle.pipe_text_trace.proofs.record.print_noted_lines.Given as goal
 
 abbrev pub invariant-noted : goal.invariant-noted
 invariant-noted l =
