@@ -4,7 +4,7 @@ use Rattle.std.specs.declared.io.ErrorKind.{ErrorKind}
 use Rattle.std.specs.declared.io.ErrorKind.TheVariants.{OutOfMemory}
 use Rattle.pipe_base.specs.Outside.{Rose}
 use Rattle.pipe_cli.specs.Answer.{DoesReplay, IsCaused, IsComplete, IsOfInput}
-use Rattle.pipe_cli.specs.Form.{IsReplayForm}
+use Rattle.pipe_cli.specs.Form.{IsSomeForm}
 use Rattle.pipe_cli.specs.Status.{exit_number, has_text}
 use Rattle.pipe_cli.specs.declared.status.Status.{Status}
 use Rattle.pipe_cli.specs.declared.status.Status.TheVariants.{NoMemory, Usage}
@@ -19,8 +19,8 @@ status_without_words _ = Usage
 pub record EndsAsRun (words : List (List ℕ)) (left rest old new : Option (List ℕ)) (read_before read_after write_before write_after number : ℕ) : Type 0 where
   pub outcome : Outcome
   pub number_is : number ≡ exit_number outcome.status
-  pub usage : (outcome.status ≡ Usage) ↔ ¬ IsReplayForm words
+  pub usage : (outcome.status ≡ Usage) ↔ ¬ IsSomeForm words
   pub input : IsOfInput left rest outcome.status
   pub cause : IsCaused outcome.status read_before read_after write_before write_after
-  pub replay : has_text outcome.status ≡ true → DoesReplay outcome.status left rest old new outcome.trace
+  pub replay : has_text outcome.status ≡ true → DoesReplay words outcome.status left rest old new outcome.trace
   pub complete : ¬ Rose read_before read_after → ¬ Rose write_before write_after → IsComplete words left outcome.status

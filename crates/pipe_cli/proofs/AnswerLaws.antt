@@ -1,5 +1,5 @@
 -- Lemmas on statuses.
-use Rattle.std.proofs.Common.{◌≡◌, ◌⊎◌, ℕ, ◌≤◌, Bool, true, false, List, [], ◌++◌, length, reverse, take, Option, None, Some, refl, ap, sym, subst, ◌∙◌, arith, inl, inr, append-nil, nat_lt, if◌then◌else◌}
+use Rattle.std.proofs.Common.{◌≡◌, ◌⊎◌, ℕ, ◌≤◌, Bool, true, false, List, [], ◌++◌, length, take, Option, None, Some, refl, ap, sym, subst, ◌∙◌, arith, inl, inr, append-nil, nat_lt, if◌then◌else◌}
 use Rattle.std.specs.Prelude.{Result}
 use Rattle.std.specs.Prelude as result
 use Rattle.std.proofs.lemmas.Bool.{cases_lt}
@@ -12,13 +12,14 @@ use Rattle.pipe_text_input.specs.declared.input.Input.{Input}
 use Rattle.pipe_text_input.specs.declared.input.InputFault.{InputFault}
 use Rattle.pipe_text_input.specs.Content.{Content, content_of}
 use Rattle.pipe_text_input.specs.Read.{IsRead}
-use Rattle.pipe_text_log.specs.LogText.{log_text}
 use Rattle.pipe_cli.specs.declared.status.Status.{Status}
+use Rattle.pipe_cli.specs.declared.words.Form.{Form}
 use Rattle.pipe_cli.specs.declared.status.Status.TheVariants.{Ok, Usage, ReadFault, WriteFault, BadTopology, BadSchedule, TooLong, NoMemory}
 use Rattle.pipe_cli.specs.Answer.{AsksFor, CanRun, IsOfInput, IsWritten, DoesReplay}
+use Rattle.pipe_cli.specs.Form.{IsReplayForm}
 use Rattle.pipe_cli.specs.Input.{says, told}
 use Rattle.pipe_cli.specs.Read.{WasRead}
-use Rattle.pipe_cli.specs.Replay.{IsOrderedRun, IsOverfull, IsRefusal, Replays}
+use Rattle.pipe_cli.specs.Replay.{IsOrderedRun, IsOverfull, IsRefusal, Replays, replay_text}
 use Rattle.pipe_cli.specs.Running.{IsStopped}
 
 -- what is short enough says what its content is
@@ -28,8 +29,8 @@ short_says bytes few =
     ap (λ (t : Bool). if t then result.Err (TooLong Bytes 67108865) else told (content_of bytes)) test
 
 -- what was replayed asks for Ok
-replay_runs : (bytes : List ℕ) (trace : List Record) (text : List ℕ) → Replays bytes trace text → CanRun bytes
-replay_runs bytes trace text done = record { content = done.content; said = done.said; trace = trace; run = done.run }
+replay_runs : (form : Form) (bytes : List ℕ) (trace : List Record) (text : List ℕ) → Replays form bytes trace text → CanRun bytes
+replay_runs form bytes trace text done = record { content = done.content; said = done.said; trace = trace; run = done.run }
 
 -- what was read is the front of what was there
 front_from : (rest : Option (List ℕ)) (bytes all : List ℕ) → WasRead (Some all) rest bytes → bytes ≡ take 67108865 all
@@ -69,32 +70,32 @@ refusal_complete left rest bytes all status refusal read is =
     ]
 
 -- what was written is of the input
-pub written_of_input : (left rest old new : Option (List ℕ)) (bytes text : List ℕ) (trace : List Record) (status : Status)
-    → IsWritten status old new text → WasRead left rest bytes → Replays bytes trace text → IsOfInput left rest status
-written_of_input left rest old new bytes text trace Ok written read done =
-    record { bytes = bytes; read = read; asks = replay_runs bytes trace text done }
-written_of_input left rest old new bytes text trace Usage written read done = tt
-written_of_input left rest old new bytes text trace ReadFault written read done = tt
-written_of_input left rest old new bytes text trace WriteFault written read done =
-    record { bytes = bytes; read = read; asks = replay_runs bytes trace text done }
-written_of_input left rest old new bytes text trace (BadTopology fault) written read done = absurd written
-written_of_input left rest old new bytes text trace (BadSchedule line kind) written read done = absurd written
-written_of_input left rest old new bytes text trace (TooLong what count) written read done = absurd written
-written_of_input left rest old new bytes text trace NoMemory written read done = tt
+pub written_of_input : (form : Form) (left rest old new : Option (List ℕ)) (bytes text : List ℕ) (trace : List Record) (status : Status)
+    → IsWritten status old new text → WasRead left rest bytes → Replays form bytes trace text → IsOfInput left rest status
+written_of_input form left rest old new bytes text trace Ok written read done =
+    record { bytes = bytes; read = read; asks = replay_runs form bytes trace text done }
+written_of_input form left rest old new bytes text trace Usage written read done = tt
+written_of_input form left rest old new bytes text trace ReadFault written read done = tt
+written_of_input form left rest old new bytes text trace WriteFault written read done =
+    record { bytes = bytes; read = read; asks = replay_runs form bytes trace text done }
+written_of_input form left rest old new bytes text trace (BadTopology fault) written read done = absurd written
+written_of_input form left rest old new bytes text trace (BadSchedule line kind) written read done = absurd written
+written_of_input form left rest old new bytes text trace (TooLong what count) written read done = absurd written
+written_of_input form left rest old new bytes text trace NoMemory written read done = tt
 
 -- where no write failed, Ok is what the bytes ask for
-pub written_complete : (left rest old new : Option (List ℕ)) (bytes all text : List ℕ) (trace : List Record) (status : Status)
-    → IsWritten status old new text → (status ≡ WriteFault → ⊥) → WasRead left rest bytes → Replays bytes trace text → left ≡ Some all
+pub written_complete : (form : Form) (left rest old new : Option (List ℕ)) (bytes all text : List ℕ) (trace : List Record) (status : Status)
+    → IsWritten status old new text → (status ≡ WriteFault → ⊥) → WasRead left rest bytes → Replays form bytes trace text → left ≡ Some all
     → AsksFor (take 67108865 all) status ⊎ (status ≡ NoMemory)
-written_complete left rest old new bytes all text trace Ok written whole read done is =
-    inl (asked_in_front left rest bytes all Ok (replay_runs bytes trace text done) read is)
-written_complete left rest old new bytes all text trace Usage written whole read done is = absurd written
-written_complete left rest old new bytes all text trace ReadFault written whole read done is = absurd written
-written_complete left rest old new bytes all text trace WriteFault written whole read done is = absurd (whole refl)
-written_complete left rest old new bytes all text trace (BadTopology fault) written whole read done is = absurd written
-written_complete left rest old new bytes all text trace (BadSchedule line kind) written whole read done is = absurd written
-written_complete left rest old new bytes all text trace (TooLong what count) written whole read done is = absurd written
-written_complete left rest old new bytes all text trace NoMemory written whole read done is = inr refl
+written_complete form left rest old new bytes all text trace Ok written whole read done is =
+    inl (asked_in_front left rest bytes all Ok (replay_runs form bytes trace text done) read is)
+written_complete form left rest old new bytes all text trace Usage written whole read done is = absurd written
+written_complete form left rest old new bytes all text trace ReadFault written whole read done is = absurd written
+written_complete form left rest old new bytes all text trace WriteFault written whole read done is = absurd (whole refl)
+written_complete form left rest old new bytes all text trace (BadTopology fault) written whole read done is = absurd written
+written_complete form left rest old new bytes all text trace (BadSchedule line kind) written whole read done is = absurd written
+written_complete form left rest old new bytes all text trace (TooLong what count) written whole read done is = absurd written
+written_complete form left rest old new bytes all text trace NoMemory written whole read done is = inr refl
 
 -- bytes that say something are not too many, and that is their content
 told_ok : (told_as : Result Content InputFault) (content : Content) → told told_as ≡ result.Ok content → told_as ≡ result.Ok content
@@ -106,12 +107,14 @@ said_cases : (many : Bool) (told_as : Result Content InputFault) (content : Cont
 said_cases true told_as content is = cc
 said_cases false told_as content is = (refl, told_ok told_as content is)
 
-pub does_replay : (left rest old new : Option (List ℕ)) (bytes text : List ℕ) (trace : List Record) (status : Status)
-    → IsWritten status old new text → WasRead left rest bytes → Replays bytes trace text → DoesReplay status left rest old new trace
-does_replay left rest old new bytes text trace status written read done =
+pub does_replay : (form : Form) (words : List (List ℕ)) (left rest old new : Option (List ℕ)) (bytes text : List ℕ) (trace : List Record) (status : Status)
+    → IsReplayForm form words → IsWritten status old new text → WasRead left rest bytes → Replays form bytes trace text → DoesReplay words status left rest old new trace
+does_replay form words left rest old new bytes text trace status form_is written read done =
     let both = said_cases (nat_lt 67108864 (length bytes)) (content_of bytes) done.content done.said in
     let within : length bytes ≤ 67108864 = let test = both.0 in grind (arith, nat_tests) in
     record {
+      form = form;
+      form_is = form_is;
       bytes = bytes;
       content = done.content;
       read = read.consumed;
@@ -130,11 +133,11 @@ overfull bytes input graph items few read graph_is stopped = record {
   stopped = subst (λ (g : Graph). IsStopped g input.events items) (graph_is ∙ read.built) stopped;
 }
 
-pub replayed : (bytes text : List ℕ) (input : Input) (graph : Graph) (trace : List Record) → length bytes ≤ 67108864 → IsRead (content_of bytes) input → graph ≡ input.topology
-    → IsOrderedRun graph input.events trace → text ≡ log_text input.names graph (reverse trace) → Replays bytes trace text
-replayed bytes text input graph trace few read graph_is run text_is = record {
+pub replayed : (form : Form) (bytes text : List ℕ) (input : Input) (graph : Graph) (trace : List Record) → length bytes ≤ 67108864 → IsRead (content_of bytes) input → graph ≡ input.topology
+    → IsOrderedRun graph input.events trace → text ≡ replay_text form input.names graph trace → Replays form bytes trace text
+replayed form bytes text input graph trace few read graph_is run text_is = record {
   content = record { names = input.names; plan = input.plan; events = input.events };
   said = short_says bytes few ∙ ap told read.content;
   run = subst (λ (g : Graph). IsOrderedRun g input.events trace) (graph_is ∙ read.built) run;
-  text_is = text_is ∙ ap (λ (g : Graph). log_text input.names g (reverse trace)) (graph_is ∙ read.built);
+  text_is = text_is ∙ ap (λ (g : Graph). replay_text form input.names g trace) (graph_is ∙ read.built);
 }

@@ -7,9 +7,9 @@ use Rattle.std.proofs.lemmas.List.Sums.{sum_by-append}
 use Rattle.pipe_base.specs.declared.fault.Size.{Size}
 use Rattle.pipe_base.specs.declared.fault.Size.TheVariants.{Bytes, Events, Items}
 use Rattle.pipe_base.specs.Graph.{Graph}
+use Rattle.pipe_base.specs.Limits.{most_items}
 use Rattle.pipe_model.specs.declared.event.Event.{Event}
 use Rattle.pipe_model.specs.declared.record.Record.{Record}
-use Rattle.pipe_base.specs.Limits.{most_items}
 use Rattle.pipe_model.specs.Items.{items_in, items_of}
 use Rattle.pipe_model.specs.Run.{IsHistory, IsRun, event_of}
 use Rattle.pipe_model_net.proofs.Determined.{run_same}

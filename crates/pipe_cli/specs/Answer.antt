@@ -1,18 +1,18 @@
 -- What the status of a call has to do with what was read and written.
-use Rattle.std.specs.Prelude.{◌≡◌, ◌≢◌, ◌⊎◌, ℕ, ◌<◌, ◌≤◌, List, length, reverse, take, Option, Some}
+use Rattle.std.specs.Prelude.{◌≡◌, ◌≢◌, ◌⊎◌, ℕ, ◌<◌, ◌≤◌, List, length, take, Option, Some}
 use Rattle.std.specs.Prelude as result
 use Rattle.std.specs.Io.KnownBytes.{Appends, Consumes, IsAtEnd}
 use Rattle.pipe_base.specs.Outside.{Rose}
 use Rattle.pipe_model.specs.declared.record.Record.{Record}
 use Rattle.pipe_text_input.specs.Content.{Content, content_of}
-use Rattle.pipe_text_log.specs.LogText.{log_text}
 use Rattle.pipe_topo.specs.Plan.{graph_of}
 use Rattle.pipe_cli.specs.declared.status.Status.{Status}
 use Rattle.pipe_cli.specs.declared.status.Status.TheVariants.{Ok, Usage, ReadFault, WriteFault, BadTopology, BadSchedule, TooLong, NoMemory}
-use Rattle.pipe_cli.specs.Form.{IsReplayForm}
+use Rattle.pipe_cli.specs.declared.words.Form.{Form}
+use Rattle.pipe_cli.specs.Form.{IsReplayForm, IsSomeForm}
 use Rattle.pipe_cli.specs.Input.{says}
 use Rattle.pipe_cli.specs.Read.{WasRead}
-use Rattle.pipe_cli.specs.Replay.{IsOrderedRun, IsTooLong}
+use Rattle.pipe_cli.specs.Replay.{IsOrderedRun, IsTooLong, replay_text}
 
 -- the bytes tell a network and events, and their run puts no more than it may
 pub record CanRun (bytes : List ℕ) : Type 0 where
@@ -68,8 +68,11 @@ IsWritten (BadSchedule line kind) old new text = ⊥
 IsWritten (TooLong what count) old new text = ⊥
 IsWritten NoMemory old new text = ⊥
 
--- The source was read to its end, its bytes are an input, the trace is the run of the input, and its log text was written.
-pub record DoesReplay (status : Status) (left rest old new : Option (List ℕ)) (trace : List Record) : Type 0 where
+-- The words are a form, the source was read to its end, its bytes are an input, the trace is the run of the input, and the
+-- text of the form was written.
+pub record DoesReplay (words : List (List ℕ)) (status : Status) (left rest old new : Option (List ℕ)) (trace : List Record) : Type 0 where
+  pub form : Form
+  pub form_is : IsReplayForm form words
   pub bytes : List ℕ
   pub content : Content
   pub read : Consumes left rest bytes
@@ -77,9 +80,9 @@ pub record DoesReplay (status : Status) (left rest old new : Option (List ℕ)) 
   pub within : length bytes ≤ 67108864
   pub input : content_of bytes ≡ result.Ok content
   pub run : IsOrderedRun (graph_of content.plan) content.events trace
-  pub written : IsWritten status old new (log_text content.names (graph_of content.plan) (reverse trace))
+  pub written : IsWritten status old new (replay_text form content.names (graph_of content.plan) trace)
 
 -- Where nothing fails and there is memory, the status is what the first bytes of the source ask for.
 abbrev pub IsComplete : List (List ℕ) → Option (List ℕ) → Status → Type 0
 IsComplete words left status =
-    IsReplayForm words → (bytes : List ℕ) → left ≡ Some bytes → AsksFor (take 67108865 bytes) status ⊎ (status ≡ NoMemory)
+    IsSomeForm words → (bytes : List ℕ) → left ≡ Some bytes → AsksFor (take 67108865 bytes) status ⊎ (status ≡ NoMemory)

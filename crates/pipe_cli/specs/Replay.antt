@@ -1,19 +1,22 @@
 -- What a replay shows of an input.
-use Rattle.std.specs.Prelude.{◌≡◌, ℕ, ◌≤◌, List, reverse, Ok, Err}
+use Rattle.std.specs.Prelude.{◌≡◌, ℕ, ◌≤◌, List, ◌++◌, reverse, Ok, Err}
 use Rattle.pipe_base.specs.declared.fault.Size.{Size}
 use Rattle.pipe_base.specs.declared.fault.Size.TheVariants.{Bytes, Events, Items}
 use Rattle.pipe_base.specs.Graph.{Graph}
+use Rattle.pipe_base.specs.Limits.{most_items}
 use Rattle.pipe_model.specs.declared.event.Event.{Event}
 use Rattle.pipe_model.specs.declared.record.Record.{Record}
-use Rattle.pipe_base.specs.Limits.{most_items}
 use Rattle.pipe_model.specs.Items.{items_of}
 use Rattle.pipe_model.specs.Order.{AreLogsOrdered, AreStampsCausal, IsGenuine}
 use Rattle.pipe_model.specs.Run.{IsRun}
 use Rattle.pipe_text_input.specs.Content.{Content}
 use Rattle.pipe_text_log.specs.LogText.{log_text}
+use Rattle.pipe_text_trace.specs.TraceText.{trace_text}
 use Rattle.pipe_topo.specs.Plan.{graph_of}
 use Rattle.pipe_cli.specs.declared.status.Status.{Status}
 use Rattle.pipe_cli.specs.declared.status.Status.TheVariants as status
+use Rattle.pipe_cli.specs.declared.words.Form.{Form}
+use Rattle.pipe_cli.specs.declared.words.Form.TheVariants.{Replay, ReplayTrace}
 use Rattle.pipe_cli.specs.Input.{says}
 use Rattle.pipe_cli.specs.Running.{IsStopped}
 
@@ -26,12 +29,17 @@ pub record IsOrderedRun (graph : Graph) (events : List Event) (trace : List Reco
   pub causal : AreStampsCausal graph (reverse trace)
   pub genuine : IsGenuine graph (reverse trace)
 
--- the bytes tell a network and events, the trace is their run, and the text is that of its logs
-pub record Replays (bytes : List ℕ) (trace : List Record) (text : List ℕ) : Type 0 where
+-- the text of a trace by the form: that of its logs, with `--trace` that of the trace before it
+abbrev pub replay_text : Form → List (List ℕ) → Graph → List Record → List ℕ
+replay_text Replay names graph trace = log_text names graph (reverse trace)
+replay_text ReplayTrace names graph trace = trace_text names graph.hosts trace ++ log_text names graph (reverse trace)
+
+-- the bytes tell a network and events, the trace is their run, and the text is that of the form
+pub record Replays (form : Form) (bytes : List ℕ) (trace : List Record) (text : List ℕ) : Type 0 where
   pub content : Content
   pub said : says bytes ≡ Ok content
   pub run : IsOrderedRun (graph_of content.plan) content.events trace
-  pub text_is : text ≡ log_text content.names (graph_of content.plan) (reverse trace)
+  pub text_is : text ≡ replay_text form content.names (graph_of content.plan) trace
 
 -- the bytes tell a network and events, and their run has to stop
 pub record IsOverfull (bytes : List ℕ) (items : ℕ) : Type 0 where

@@ -1,5 +1,5 @@
 //! The program as one call over its words, a source and a sink: it reads a network and a schedule, runs them, and
-//! writes every host's log.
+//! writes every host's log, where it is asked for with all that happened before them.
 #![tactic(auto)]
 
 mod laws;
@@ -13,7 +13,7 @@ mod write;
 pub use laws::inputs_ask_for_one_status;
 pub use status::{Status, exit_number};
 pub use top::{Outcome, run};
-pub use words::Words;
+pub use words::{Form, Words};
 
 #[cfg(test)]
 mod tests;

@@ -1,22 +1,26 @@
-// A replay: the events of an input, run one by one, and the logs of the run as text.
+// A replay: the events of an input, run one by one, and the text of the run.
 ghost use Rattle.std.specs.Prelude.{◌≡◌, ◌≤◌, ℕ, All, List, [], length, map, IfOk, IfErr, OnOk};
 ghost use Rattle.pipe_model.specs.Run.{event_of};
 ghost use Rattle.pipe_text_input.specs.Content.{content_of};
 ghost use Rattle.pipe_text_input.specs.Read.{IsRead};
 ghost use Rattle.pipe_text_schedule.specs.Line.{CanHappen};
-ghost use Rattle.pipe_cli.specs.Replay.{IsRefusal, Replays};
+ghost use Rattle.pipe_cli.specs.Replay.{IsRefusal, Replays, replay_text};
 ghost use Rattle.pipe_cli.specs.Running.{IsStopped};
 
 use crate::read::INPUT_LIMIT;
 use crate::status::{Status, status_of_fault};
-use pipe_base::Size;
+use crate::words::Form;
+use pipe_base::{List, NoMemory, Size};
 use pipe_model::{EventList, Trace};
+use pipe_text::Text;
 use pipe_text_input::{Input, read_input};
-use pipe_text_log::{Text, print_logs};
+use pipe_text_log::print_logs;
+use pipe_text_trace::print_trace;
+use pipe_topo::{Names, Topology};
 use pipe_world::{StepFault, World};
 use std::alloc::Global;
 
-/// What happened, and its log text.
+/// What happened, and its text.
 #[derive(Drop)]
 pub struct Replayed {
     pub trace: Trace,
@@ -24,8 +28,8 @@ pub struct Replayed {
 }
 
 /// Runs an input, or answers its refusal.
-pub fn replay(alloc: Global, bytes: &[u8]) -> Result<Replayed, Status>
-    ensures ok { IfOk result (λ done. Replays bytes.now done.trace done.text) }
+pub fn replay(alloc: Global, form: Form, bytes: &[u8]) -> Result<Replayed, Status>
+    ensures ok { IfOk result (λ done. Replays form bytes.now done.trace done.text) }
     ensures err { IfErr result (IsRefusal bytes.now) }
 {
     if bytes.len() > INPUT_LIMIT {
@@ -35,14 +39,14 @@ pub fn replay(alloc: Global, bytes: &[u8]) -> Result<Replayed, Status>
         });
     }
     match read_input(alloc, bytes) {
-        Ok(input) => run_input(alloc, input),
+        Ok(input) => run_input(alloc, form, input),
         Err(fault) => Err(status_of_fault(fault)),
     }
 }
 
-fn run_input(alloc: Global, input: Input) -> Result<Replayed, Status>
+fn run_input(alloc: Global, form: Form, input: Input) -> Result<Replayed, Status>
     requires { All (CanHappen input.topology) input.events }
-    ensures ok { IfOk result (λ done. (bytes : List ℕ) → length bytes ≤ 67108864 → IsRead (content_of bytes) input → Replays bytes done.trace done.text) }
+    ensures ok { IfOk result (λ done. (bytes : List ℕ) → length bytes ≤ 67108864 → IsRead (content_of bytes) input → Replays form bytes done.trace done.text) }
     ensures err { IfErr result (λ status. (bytes : List ℕ) → length bytes ≤ 67108864 → IsRead (content_of bytes) input → IsRefusal bytes status) }
 {
     let Input {
@@ -64,13 +68,34 @@ fn run_input(alloc: Global, input: Input) -> Result<Replayed, Status>
             });
         }
     }
-    let Ok(text) = print_logs(alloc, &names, world.topology(), world.trace()) else {
+    let Ok(text) = text_of(alloc, form, &names, world.topology(), world.trace()) else {
         return Err(Status::NoMemory);
     };
     Ok(Replayed {
         trace: world.into_trace(),
         text,
     })
+}
+
+/// The text of a run: with `--trace` the logs are appended to the text of the trace.
+fn text_of(
+    alloc: Global,
+    form: Form,
+    names: &Names,
+    topology: &Topology,
+    trace: &Trace,
+) -> Result<Text, NoMemory>
+    ensures { IfOk result (λ text. text ≡ replay_text form names.now topology.now trace.now) }
+{
+    let logs = print_logs(alloc, names, topology, trace)?;
+    match form {
+        Form::Replay => Ok(logs),
+        Form::ReplayTrace => {
+            let mut text = print_trace(alloc, names, topology.hosts(), trace)?.into_vec();
+            text.extend_from_slice(logs.as_slice())?;
+            Ok(List::from_vec(text))
+        }
+    }
 }
 
 /// Runs the events in their order, up to the first that is refused.

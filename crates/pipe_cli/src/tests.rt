@@ -53,7 +53,7 @@ fn run_on(
     writes: &[u32],
 ) -> Result<Ran, Fail> {
     let mut source = MemorySource::new(alloc, input.as_bytes(), reads)?;
-    let mut sink = MemorySink::new(alloc, 1000, 10, writes)?;
+    let mut sink = MemorySink::new(alloc, 2000, 10, writes)?;
     let outcome = run(alloc, &words(alloc, texts)?, &mut source, &mut sink);
     Ok(Ran {
         status: outcome.status,
@@ -123,6 +123,113 @@ fn writes_the_logs_of_a_schedule(rt: HostRuntime) -> Result<(), Fail> {
     for (input, text, records) in &LOGS {
         let ran = run_on(rt.alloc(), &["replay"], input, &[], &[])?;
         assert!(rt; ran.is(Status::Ok, text, *records), "{input}");
+    }
+    Ok(())
+}
+
+// The first ten events of two hosts, of which one sends to the other, and what happened at each.
+const TWO_BEGIN: &str =
+    "star 2\nsend h0 best 10 h1=6869\ntick h0 20\ntick h1 15\ntake 0 0\ntake 0 0\ntake 2 0\n\
+                         tick s0.up 0\ntake 4 0\ntake 4 0\ntick s0.down 0\n";
+
+const TWO_BEGUN: &str =
+    "event 0 send h0 best 10 h1=6869\noutcome ok\nstamp 10\nput 0 plain h0 h1 10 10 11 6869\n\
+     event 1 tick h0 20\noutcome ok\nput 0 beacon 20 20\nevent 2 tick h1 15\noutcome ok\nput 2 beacon 15 15\n\
+     event 3 take 0 0\noutcome ok\ntook 0 plain h0 h1 10 10 11 6869\nput 4 plain h0 h1 10 0 0 6869\n\
+     event 4 take 0 0\noutcome ok\ntook 0 beacon 20 20\nevent 5 take 2 0\noutcome ok\ntook 2 beacon 15 15\n\
+     event 6 tick s0.up 0\noutcome ok\nput 4 beacon 15 15\n\
+     event 7 take 4 0\noutcome ok\ntook 4 plain h0 h1 10 0 0 6869\nput 3 plain h0 h1 10 0 0 6869\n\
+     event 8 take 4 0\noutcome ok\ntook 4 beacon 15 15\n\
+     event 9 tick s0.down 0\noutcome ok\nput 1 beacon 15 15\nput 3 beacon 15 15\n";
+
+const NO_LOG: &str = "log h0 best 0\nlog h0 reliable 0\n";
+
+// An input and the text of its run, each in parts, and the records of the trace.
+static TRACES: [([&str; 2], [&str; 4], usize); 5] = [
+    // A beacon overtakes the message, which is late.
+    (
+        [TWO_BEGIN, "take 3 1\ntake 3 0\n"],
+        [
+            "trace 12\n",
+            TWO_BEGUN,
+            "event 10 take 3 1\noutcome ok\ntook 3 beacon 15 15\n\
+             event 11 take 3 0\noutcome ok\ntook 3 plain h0 h1 10 0 0 6869\nfate late 15\nend\n",
+            NO_LOGS,
+        ],
+        12,
+    ),
+    // A copy of the message is a repeat, and it is logged once.
+    (
+        [TWO_BEGIN, "take 3 0 keep\ntake 3 0\ntake 3 0\n"],
+        [
+            "trace 13\n",
+            TWO_BEGUN,
+            "event 10 take 3 0 keep\noutcome ok\ntook 3 plain h0 h1 10 0 0 6869\nfate held\n\
+             event 11 take 3 0\noutcome ok\ntook 3 plain h0 h1 10 0 0 6869\nfate repeat\n\
+             event 12 take 3 0\noutcome ok\ntook 3 beacon 15 15\nlogged best 10 h0 6869\nend\n",
+            TWO_LOGS,
+        ],
+        13,
+    ),
+    // The clock is at its end.
+    (
+        [
+            "star 1\n",
+            "send h0 best 281474976710654 h0=\nsend h0 best 281474976710654 h0=\n",
+        ],
+        [
+            "trace 2\nevent 0 send h0 best 281474976710654 h0=\noutcome ok\nstamp 281474976710654\n",
+            "put 0 plain h0 h0 281474976710654 281474976710654 281474976710655 -\n",
+            "event 1 send h0 best 281474976710654 h0=\noutcome clockend 281474976710655\nend\n",
+            NO_LOG,
+        ],
+        2,
+    ),
+    (
+        ["star 1\n", "send h0 best 10 h0=6869\ntake 0 0\n"],
+        [
+            "trace 2\nevent 0 send h0 best 10 h0=6869\noutcome ok\nstamp 10\nput 0 plain h0 h0 10 10 11 6869\n",
+            "event 1 take 0 0\noutcome ok\ntook 0 plain h0 h0 10 10 11 6869\nput 2 plain h0 h0 10 10 11 6869\n",
+            "end\n",
+            NO_LOG,
+        ],
+        2,
+    ),
+    // Up to a spine where it must, back at the leaf where it can.
+    (
+        [TWO_LEAVES, ""],
+        [
+            "trace 4\nevent 0 send h0 best 10 h1=aa\noutcome ok\nstamp 10\nput 0 plain h0 h1 10 10 11 aa\n\
+             event 1 take 0 0\noutcome ok\ntook 0 plain h0 h1 10 10 11 aa\nput 6 plain h0 h1 10 10 11 aa\n",
+            "event 2 send h0 best 20 h0=bb\noutcome ok\nstamp 20\nput 0 plain h0 h0 20 20 21 bb\n\
+             event 3 take 0 0\noutcome ok\ntook 0 plain h0 h0 20 20 21 bb\nput 12 plain h0 h0 20 20 21 bb\n",
+            "end\n",
+            NO_LOGS,
+        ],
+        4,
+    ),
+];
+
+fn joined(alloc: Global, parts: &[&str]) -> Result<String, Fail> {
+    let mut text = String::new(alloc);
+    for part in parts {
+        text.push_str(part)?;
+    }
+    Ok(text)
+}
+
+#[test]
+fn writes_what_happened_and_then_the_logs(rt: HostRuntime) -> Result<(), Fail> {
+    let alloc = rt.alloc();
+    for (input, parts, records) in &TRACES {
+        let input = joined(alloc, input)?;
+        let text = joined(alloc, parts)?;
+        let ran = run_on(alloc, &["replay", "--trace"], input.as_str(), &[], &[])?;
+        assert!(rt;
+            ran.is(Status::Ok, text.as_str(), *records),
+            "{}",
+            ran.status
+        );
     }
     Ok(())
 }
@@ -280,10 +387,12 @@ fn tells_faults_of_the_outside(rt: HostRuntime) -> Result<(), Fail> {
     Ok(())
 }
 
-static NO_FORMS: [&[&str]; 4] = [
+static NO_FORMS: [&[&str]; 6] = [
     &[],
     &["Replay"],
     &["replay", "--trace", "--trace"],
+    &["--trace", "replay"],
+    &["replay", "trace"],
     &["--help"],
 ];
 

@@ -2,14 +2,14 @@
 ghost use Rattle.std.specs.Prelude.{◌≡◌, ◌≢◌, ◌↔◌, [], true, false, map, string_bytes};
 ghost use Rattle.pipe_base.specs.Outside.{Rose};
 ghost use Rattle.pipe_cli.specs.Answer.{IsOfInput, IsCaused, IsWritten, DoesReplay, IsComplete};
-ghost use Rattle.pipe_cli.specs.Form.{IsReplayForm};
+ghost use Rattle.pipe_cli.specs.Form.{IsSomeForm};
 ghost use Rattle.pipe_cli.specs.Status.{has_text};
 ghost use Rattle.pipe_cli.specs.Write.{EndsAtFault};
 
 use crate::read::{ReadStop, read_all};
 use crate::replay::{Replayed, replay};
 use crate::status::Status;
-use crate::words::{Words, is_replay};
+use crate::words::{Words, form_of};
 use crate::write::write_all;
 use pipe_base::{Failed, List, Sink, Source};
 use pipe_model::Trace;
@@ -31,24 +31,24 @@ pub fn run<S: Source, K: Sink>(
     source: &mut S,
     sink: &mut K,
 ) -> Outcome
-    ensures usage { (result.status ≡ Status.Usage) ↔ ¬ IsReplayForm (map string_bytes words.now) }
+    ensures usage { (result.status ≡ Status.Usage) ↔ ¬ IsSomeForm (map string_bytes words.now) }
     ensures unread { result.status ≡ Status.Usage → source.new ≡ source.old }
     ensures input { IsOfInput (S.left source.old) (S.left source.new) result.status }
     ensures cause { IsCaused result.status (S.faults source.old) (S.faults source.new) (K.faults sink.old) (K.faults sink.new) }
-    ensures replay { has_text result.status ≡ true → DoesReplay result.status (S.left source.old) (S.left source.new) (K.written sink.old) (K.written sink.new) result.trace }
+    ensures replay { has_text result.status ≡ true → DoesReplay (map string_bytes words.now) result.status (S.left source.old) (S.left source.new) (K.written sink.old) (K.written sink.new) result.trace }
     ensures last { result.status ≡ Status.WriteFault → EndsAtFault K.written K.faults sink.old sink.new }
     ensures silent { has_text result.status ≡ false → (sink.new ≡ sink.old) × (result.trace ≡ []) }
     ensures complete { ¬ Rose (S.faults source.old) (S.faults source.new) → ¬ Rose (K.faults sink.old) (K.faults sink.new) → IsComplete (map string_bytes words.now) (S.left source.old) result.status }
 {
-    if !is_replay(words) {
+    let Some(form) = form_of(words) else {
         return stopped(alloc, Status::Usage);
-    }
+    };
     let bytes = match read_all(alloc, source) {
         Ok(bytes) => bytes,
         Err(ReadStop::Failed) => return stopped(alloc, Status::ReadFault),
         Err(ReadStop::NoMemory) => return stopped(alloc, Status::NoMemory),
     };
-    match replay(alloc, &bytes) {
+    match replay(alloc, form, &bytes) {
         Err(refusal) => stopped(alloc, refusal),
         Ok(done) => write_out(sink, done),
     }

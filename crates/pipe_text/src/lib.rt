@@ -1,5 +1,5 @@
-//! What all texts have in common: lines, words, numbers and bodies as they are read, and the lines of a log as they are
-//! printed.
+//! What all texts have in common: lines, words, numbers and bodies as they are read, and services, bodies and the lines of a
+//! log as they are printed.
 #![tactic(auto)]
 
 mod body;
@@ -12,9 +12,13 @@ mod word;
 pub use body::{print_hex, read_body};
 pub use kind::LineKind;
 pub use line::next_line;
-pub use log::{print_log_head, print_log_line};
+pub use log::{print_body, print_log_head, print_log_line, service_word};
 pub use number::{numbers_are_as_printed, read_number};
+use pipe_base::List;
 pub use word::{is_skipped, words_of};
+
+/// A text, as its bytes.
+pub type Text = List<u8>;
 
 #[cfg(test)]
 mod tests;

@@ -6,7 +6,8 @@ use crate::print_hex;
 use itoa::Buffer;
 use pipe_base::{NoMemory, Service, Ts};
 
-fn service_word(service: Service) -> &'static [u8]
+/// The word of a service in all texts.
+pub fn service_word(service: Service) -> &'static [u8]
     ensures { result.now ≡ service_word service }
 {
     match service {
@@ -15,7 +16,8 @@ fn service_word(service: Service) -> &'static [u8]
     }
 }
 
-fn print_body(out: &mut Vec<u8>, body: &[u8]) -> Result<(), NoMemory>
+/// Appends a body where it is a word of its own: an empty one is `-`. After want of memory a part of it may stand there.
+pub fn print_body(out: &mut Vec<u8>, body: &[u8]) -> Result<(), NoMemory>
     ensures { OnOk result (out.new.items ≡ out.old.items ++ body_text body.now) }
 {
     if body.is_empty() {

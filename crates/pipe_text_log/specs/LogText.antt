@@ -1,5 +1,5 @@
 -- The text of all logs.
-use Rattle.std.specs.Prelude.{ℕ, zero, suc, List, [], ◌++◌, length, slice_index_or}
+use Rattle.std.specs.Prelude.{ℕ, zero, suc, List, [], ◌++◌, length}
 use Rattle.std.specs.List.{flat_map}
 use Rattle.pipe_base.specs.declared.message.Entry.{Entry}
 use Rattle.pipe_base.specs.declared.message.Service.{Service}
@@ -9,10 +9,7 @@ use Rattle.pipe_model.specs.declared.record.Record.{Record}
 use Rattle.pipe_model.specs.Acting.{own}
 use Rattle.pipe_model.specs.Logged.{log}
 use Rattle.pipe_text.specs.Log.{log_head, log_line}
-
--- the name of a host, which is empty where it has none
-abbrev pub name_of : List (List ℕ) → ℕ → List ℕ
-name_of names host = slice_index_or names host []
+use Rattle.pipe_text.specs.Name.{name_of}
 
 -- a message in a log, with the name of its sender
 abbrev pub entry_text : List (List ℕ) → Entry → List ℕ

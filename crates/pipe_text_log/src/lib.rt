@@ -4,7 +4,7 @@
 mod collect;
 mod print;
 
-pub use print::{Text, print_logs};
+pub use print::print_logs;
 
 #[cfg(test)]
 mod tests;

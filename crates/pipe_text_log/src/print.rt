@@ -3,17 +3,15 @@ ghost use Rattle.std.specs.Prelude.{◌≡◌, ◌++◌, ◌<◌, ℕ, List, len
 ghost use Rattle.pipe_base.specs.Graph.{Graph};
 ghost use Rattle.pipe_model.specs.declared.record.Record.{Record};
 ghost use Rattle.pipe_text_log.specs.Collected.{entries, AreLogs, AreLogsOf};
-ghost use Rattle.pipe_text_log.specs.LogText.{name_of, service_text, host_text, hosts_text, log_text};
+ghost use Rattle.pipe_text.specs.Name.{name_of};
+ghost use Rattle.pipe_text_log.specs.LogText.{service_text, host_text, hosts_text, log_text};
 
 use crate::collect::{Log, collect};
 use pipe_base::{Entry, List, NoMemory, Service};
 use pipe_model::Trace;
-use pipe_text::{print_log_head, print_log_line};
+use pipe_text::{Text, print_log_head, print_log_line};
 use pipe_topo::{Names, Topology};
 use std::alloc::Global;
-
-/// A text, as its bytes.
-pub type Text = List<u8>;
 
 fn name_of(names: &Names, host: u16) -> &str
     ensures { result.now ≡ name_of names.now host }

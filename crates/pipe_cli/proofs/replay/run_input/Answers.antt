@@ -1,8 +1,8 @@
-use Rattle.std.proofs.Common.{◌≡◌, List, map, reverse, ap, sym, ◌∙◌}
+use Rattle.std.proofs.Common.{◌≡◌, List, map, ap, sym, ◌∙◌}
 use Rattle.pipe_base.specs.Graph.{Graph}
 use Rattle.pipe_model.specs.declared.record.Record.{Record}
 use Rattle.pipe_model.specs.Run.{event_of}
-use Rattle.pipe_text_log.specs.LogText.{log_text}
+use Rattle.pipe_cli.specs.Replay.{replay_text}
 use Rattle.pipe_world.specs.World.{GraphAndTrace}
 use Rattle.pipe_cli.proofs.AnswerLaws.{overfull, replayed}
 use Rattle.pipe_cli.proofs.replay.run_input.Goals as goal
@@ -17,7 +17,7 @@ pub returns-clause-ok : goal.returns-clause-ok
 returns-clause-ok c = λ bytes few read.
     let graph_is : c.run_events.new.world.graph ≡ c.args.input.topology = c.run_events.ensures.graph ∙ ap (λ (w : GraphAndTrace). w.graph) c.in-Ok.ensures in
     let trace_is : c.trace.result.now ≡ c.into_trace.result = c.trace.ensures.trace ∙ sym c.into_trace.ensures.trace in
-    replayed bytes c.in-Ok-print_logs.text c.args.input c.run_events.new.world.graph c.into_trace.result few read graph_is
+    replayed c.args.form bytes c.in-Ok-text_of.text c.args.input c.run_events.new.world.graph c.into_trace.result few read graph_is
     (record {
       run = record { events_are = ap (map event_of) c.into_trace.ensures.trace ∙ c.in-Ok-run_events.ensures.ran; rules = c.into_trace.ensures.history };
       within = c.into_trace.ensures.within;
@@ -25,5 +25,5 @@ returns-clause-ok c = λ bytes few read.
       causal = c.into_trace.ensures.causal;
       genuine = c.into_trace.ensures.genuine;
     })
-    (c.in-Ok-print_logs.ensures ∙ ap (λ (g : Graph). log_text c.args.input.names g (reverse c.trace.result.now)) c.topology.ensures
-    ∙ ap (λ (t : List Record). log_text c.args.input.names c.run_events.new.world.graph (reverse t)) trace_is)
+    (c.in-Ok-text_of.ensures ∙ ap (λ (g : Graph). replay_text c.args.form c.args.input.names g c.trace.result.now) c.topology.ensures
+    ∙ ap (λ (t : List Record). replay_text c.args.form c.args.input.names c.run_events.new.world.graph t) trace_is)

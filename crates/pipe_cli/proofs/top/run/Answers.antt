@@ -1,4 +1,4 @@
-use Rattle.std.proofs.Common.{◌≡◌, ◌⊎◌, List, ℕ, subst, sym, take}
+use Rattle.std.proofs.Common.{◌≡◌, ◌⊎◌, List, ℕ, map, string_bytes, subst, sym, take}
 use Rattle.pipe_cli.specs.declared.status.Status.{Status}
 use Rattle.pipe_cli.specs.declared.status.Status.TheVariants.{NoMemory}
 use Rattle.pipe_cli.specs.Answer.{AsksFor, DoesReplay}
@@ -16,27 +16,27 @@ returns-in-Err-clause-complete g c =
 
 pub returns-clause-input : goal.returns-clause-input
 returns-clause-input g c =
-    written_of_input (g.S.Source.left c.args.source.now) (g.S.Source.left c.read_all.new.source) (g.K.Sink.written c.args.sink.now)
+    written_of_input c.in-Some.form (g.S.Source.left c.args.source.now) (g.S.Source.left c.read_all.new.source) (g.K.Sink.written c.args.sink.now)
     (g.K.Sink.written c.write_out.new.sink) c.in-Ok.bytes.items c.in-Ok-replay.done.text c.in-Ok-replay.done.trace c.write_out.result.status
     c.write_out.ensures.written c.in-Ok.ensures.read
-    (subst (λ (read : List ℕ). Replays read c.in-Ok-replay.done.trace c.in-Ok-replay.done.text) c.deref.ensures.value c.in-Ok-replay.ensures.ok)
+    (subst (λ (read : List ℕ). Replays c.in-Some.form read c.in-Ok-replay.done.trace c.in-Ok-replay.done.text) c.deref.ensures.value c.in-Ok-replay.ensures.ok)
 
 pub returns-clause-replay : goal.returns-clause-replay
 returns-clause-replay g c =
-    λ has. subst (DoesReplay c.write_out.result.status (g.S.Source.left c.args.source.now) (g.S.Source.left c.read_all.new.source)
+    λ has. subst (DoesReplay (map string_bytes c.args.words.now) c.write_out.result.status (g.S.Source.left c.args.source.now) (g.S.Source.left c.read_all.new.source)
     (g.K.Sink.written c.args.sink.now) (g.K.Sink.written c.write_out.new.sink)) (sym c.write_out.ensures.trace)
-    (does_replay (g.S.Source.left c.args.source.now) (g.S.Source.left c.read_all.new.source) (g.K.Sink.written c.args.sink.now)
+    (does_replay c.in-Some.form (map string_bytes c.args.words.now) (g.S.Source.left c.args.source.now) (g.S.Source.left c.read_all.new.source) (g.K.Sink.written c.args.sink.now)
     (g.K.Sink.written c.write_out.new.sink) c.in-Ok.bytes.items c.in-Ok-replay.done.text c.in-Ok-replay.done.trace
-    c.write_out.result.status c.write_out.ensures.written c.in-Ok.ensures.read
-    (subst (λ (read : List ℕ). Replays read c.in-Ok-replay.done.trace c.in-Ok-replay.done.text) c.deref.ensures.value
+    c.write_out.result.status c.in-Some.ensures.some c.write_out.ensures.written c.in-Ok.ensures.read
+    (subst (λ (read : List ℕ). Replays c.in-Some.form read c.in-Ok-replay.done.trace c.in-Ok-replay.done.text) c.deref.ensures.value
     c.in-Ok-replay.ensures.ok))
 
 pub returns-clause-complete : goal.returns-clause-complete
 returns-clause-complete g c =
     λ source sink form bytes left.
-    written_complete (g.S.Source.left c.args.source.now) (g.S.Source.left c.read_all.new.source) (g.K.Sink.written c.args.sink.now)
+    written_complete c.in-Some.form (g.S.Source.left c.args.source.now) (g.S.Source.left c.read_all.new.source) (g.K.Sink.written c.args.sink.now)
     (g.K.Sink.written c.write_out.new.sink) c.in-Ok.bytes.items bytes c.in-Ok-replay.done.text c.in-Ok-replay.done.trace
     c.write_out.result.status c.write_out.ensures.written (λ is. sink (c.write_out.ensures.failed is)) c.in-Ok.ensures.read
-    (subst (λ (read : List ℕ). Replays read c.in-Ok-replay.done.trace c.in-Ok-replay.done.text) c.deref.ensures.value
+    (subst (λ (read : List ℕ). Replays c.in-Some.form read c.in-Ok-replay.done.trace c.in-Ok-replay.done.text) c.deref.ensures.value
     c.in-Ok-replay.ensures.ok)
     left

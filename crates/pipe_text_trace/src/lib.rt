@@ -1,0 +1,17 @@
+//! A trace as text: what was taken, put, told and logged at every event, with names.
+#![tactic(auto)]
+
+mod control;
+mod event;
+mod node;
+mod packet;
+mod record;
+mod step;
+mod trace;
+mod word;
+
+pub use event::print_event;
+pub use trace::print_trace;
+
+#[cfg(test)]
+mod tests;

@@ -1,0 +1,258 @@
+// The lines of a record.
+ghost use Rattle.std.specs.Prelude.{◌≡◌, ◌++◌, [], ◌∷◌, map, OnOk};
+ghost use Rattle.pipe_text_trace.specs.Line.{line_text, lines_text};
+ghost use Rattle.pipe_text_trace.specs.Record.{control_line, down_line, dropped_line, event_line, fate_lines, logged_line, noted_line, outcome_line, put_line, record_lines, stamp_lines, took_lines, unrouted_lines};
+
+use crate::control::print_addressed;
+use crate::event::print_event_after;
+use crate::node::print_host;
+use crate::packet::print_packet;
+use crate::step::{print_fate, print_outcome};
+use crate::word::{print_body, print_first_word, print_line_end, print_number, print_word};
+use pipe_base::{
+    Addressed, Announced, Entry, Fate, LinkId, NoMemory, Outcome, Packet, Service, Ts,
+};
+use pipe_model::{Event, Record, Took};
+use pipe_text::service_word;
+use pipe_topo::Names;
+
+fn print_event_line(
+    out: &mut Vec<u8>,
+    names: &Names,
+    hosts: u16,
+    at: usize,
+    event: &Event,
+) -> Result<(), NoMemory>
+    ensures { OnOk result (out.new.items ≡ out.old.items ++ lines_text (event_line names.now hosts at event.now ∷ [])) }
+{
+    print_first_word(out, b"event")?;
+    print_number(out, at)?;
+    print_event_after(out, names, hosts, event)?;
+    print_line_end(out)
+}
+
+fn print_outcome_line(out: &mut Vec<u8>, names: &Names, outcome: Outcome) -> Result<(), NoMemory>
+    ensures { OnOk result (out.new.items ≡ out.old.items ++ lines_text (outcome_line names.now outcome ∷ [])) }
+{
+    print_first_word(out, b"outcome")?;
+    print_outcome(out, names, outcome)?;
+    print_line_end(out)
+}
+
+fn print_stamp_lines(out: &mut Vec<u8>, stamped: Option<Ts>) -> Result<(), NoMemory>
+    ensures { OnOk result (out.new.items ≡ out.old.items ++ lines_text (stamp_lines stamped)) }
+{
+    let Some(ts) = stamped else {
+        return Ok(());
+    };
+    print_first_word(out, b"stamp")?;
+    print_number(out, ts.0)?;
+    print_line_end(out)
+}
+
+fn print_took_lines(
+    out: &mut Vec<u8>,
+    names: &Names,
+    hosts: u16,
+    took: &Took,
+) -> Result<(), NoMemory>
+    ensures { OnOk result (out.new.items ≡ out.old.items ++ lines_text (took_lines names.now hosts took.now)) }
+{
+    match took {
+        Took::Nothing => Ok(()),
+        Took::Link { link, packet } => {
+            print_first_word(out, b"took")?;
+            print_number(out, link.0)?;
+            print_packet(out, names, packet)?;
+            print_line_end(out)
+        }
+        Took::Message { addressed } => {
+            print_first_word(out, b"tookcontrol")?;
+            print_addressed(out, names, hosts, addressed)?;
+            print_line_end(out)
+        }
+    }
+}
+
+fn print_down_line(out: &mut Vec<u8>, link: LinkId, value: Ts) -> Result<(), NoMemory>
+    ensures { OnOk result (out.new.items ≡ out.old.items ++ line_text (down_line (link, value))) }
+{
+    print_first_word(out, b"down")?;
+    print_number(out, link.0)?;
+    print_number(out, value.0)?;
+    print_line_end(out)
+}
+
+fn print_down_lines(out: &mut Vec<u8>, downed: &[(LinkId, Ts)]) -> Result<(), NoMemory>
+    ensures { OnOk result (out.new.items ≡ out.old.items ++ lines_text (map down_line downed.now)) }
+{
+    'downed: for (link, value) in downed {
+        print_down_line(out, *link, *value)?;
+    }
+    Ok(())
+}
+
+fn print_noted_line(out: &mut Vec<u8>, names: &Names, noted: Announced) -> Result<(), NoMemory>
+    ensures { OnOk result (out.new.items ≡ out.old.items ++ line_text (noted_line names.now noted)) }
+{
+    print_first_word(out, b"noted")?;
+    print_host(out, names, noted.host)?;
+    print_number(out, noted.time.0)?;
+    print_line_end(out)
+}
+
+fn print_noted_lines(out: &mut Vec<u8>, names: &Names, noted: &[Announced]) -> Result<(), NoMemory>
+    ensures { OnOk result (out.new.items ≡ out.old.items ++ lines_text (map (noted_line names.now) noted.now)) }
+{
+    'noted: for entry in noted {
+        print_noted_line(out, names, *entry)?;
+    }
+    Ok(())
+}
+
+fn print_dropped_line(out: &mut Vec<u8>, link: LinkId) -> Result<(), NoMemory>
+    ensures { OnOk result (out.new.items ≡ out.old.items ++ line_text (dropped_line link)) }
+{
+    print_first_word(out, b"dropped")?;
+    print_number(out, link.0)?;
+    print_line_end(out)
+}
+
+fn print_dropped_lines(out: &mut Vec<u8>, dropped: &[LinkId]) -> Result<(), NoMemory>
+    ensures { OnOk result (out.new.items ≡ out.old.items ++ lines_text (map dropped_line dropped.now)) }
+{
+    'dropped: for link in dropped {
+        print_dropped_line(out, *link)?;
+    }
+    Ok(())
+}
+
+fn print_fate_lines(out: &mut Vec<u8>, received: Option<Fate>) -> Result<(), NoMemory>
+    ensures { OnOk result (out.new.items ≡ out.old.items ++ lines_text (fate_lines received)) }
+{
+    let Some(fate) = received else {
+        return Ok(());
+    };
+    print_first_word(out, b"fate")?;
+    print_fate(out, fate)?;
+    print_line_end(out)
+}
+
+fn print_logged_line(
+    out: &mut Vec<u8>,
+    names: &Names,
+    service: Service,
+    entry: &Entry,
+) -> Result<(), NoMemory>
+    ensures { OnOk result (out.new.items ≡ out.old.items ++ line_text (logged_line names.now (service, entry.now))) }
+{
+    print_first_word(out, b"logged")?;
+    print_word(out, service_word(service))?;
+    print_number(out, entry.key.ts.0)?;
+    print_host(out, names, entry.key.src)?;
+    print_body(out, entry.body.bytes())?;
+    print_line_end(out)
+}
+
+fn print_logged_lines(
+    out: &mut Vec<u8>,
+    names: &Names,
+    logged: &[(Service, Entry)],
+) -> Result<(), NoMemory>
+    ensures { OnOk result (out.new.items ≡ out.old.items ++ lines_text (map (logged_line names.now) logged.now)) }
+{
+    'logged: for (service, entry) in logged {
+        print_logged_line(out, names, *service, entry)?;
+    }
+    Ok(())
+}
+
+fn print_put_line(
+    out: &mut Vec<u8>,
+    names: &Names,
+    link: LinkId,
+    put: &Packet,
+) -> Result<(), NoMemory>
+    ensures { OnOk result (out.new.items ≡ out.old.items ++ line_text (put_line names.now (link, put.now))) }
+{
+    print_first_word(out, b"put")?;
+    print_number(out, link.0)?;
+    print_packet(out, names, put)?;
+    print_line_end(out)
+}
+
+fn print_put_lines(
+    out: &mut Vec<u8>,
+    names: &Names,
+    puts: &[(LinkId, Packet)],
+) -> Result<(), NoMemory>
+    ensures { OnOk result (out.new.items ≡ out.old.items ++ lines_text (map (put_line names.now) puts.now)) }
+{
+    'puts: for (link, put) in puts {
+        print_put_line(out, names, *link, put)?;
+    }
+    Ok(())
+}
+
+fn print_control_line(
+    out: &mut Vec<u8>,
+    names: &Names,
+    hosts: u16,
+    told: &Addressed,
+) -> Result<(), NoMemory>
+    ensures { OnOk result (out.new.items ≡ out.old.items ++ line_text (control_line names.now hosts told.now)) }
+{
+    print_first_word(out, b"control")?;
+    print_addressed(out, names, hosts, told)?;
+    print_line_end(out)
+}
+
+fn print_control_lines(
+    out: &mut Vec<u8>,
+    names: &Names,
+    hosts: u16,
+    control: &[Addressed],
+) -> Result<(), NoMemory>
+    ensures { OnOk result (out.new.items ≡ out.old.items ++ lines_text (map (control_line names.now hosts) control.now)) }
+{
+    'control: for told in control {
+        print_control_line(out, names, hosts, told)?;
+    }
+    Ok(())
+}
+
+fn print_unrouted_lines(out: &mut Vec<u8>, count: u32) -> Result<(), NoMemory>
+    ensures { OnOk result (out.new.items ≡ out.old.items ++ lines_text (unrouted_lines count)) }
+{
+    if count == 0 {
+        return Ok(());
+    }
+    print_first_word(out, b"unrouted")?;
+    print_number(out, count)?;
+    print_line_end(out)
+}
+
+/// Appends the lines of the record with this number.
+pub fn print_record(
+    out: &mut Vec<u8>,
+    names: &Names,
+    hosts: u16,
+    at: usize,
+    happened: &Record,
+) -> Result<(), NoMemory>
+    ensures { OnOk result (out.new.items ≡ out.old.items ++ lines_text (record_lines names.now hosts at happened.now)) }
+{
+    let step = &happened.step;
+    print_event_line(out, names, hosts, at, &happened.event)?;
+    print_outcome_line(out, names, step.outcome)?;
+    print_stamp_lines(out, step.stamped)?;
+    print_took_lines(out, names, hosts, &happened.took)?;
+    print_down_lines(out, step.downed.as_slice())?;
+    print_noted_lines(out, names, step.noted.as_slice())?;
+    print_dropped_lines(out, step.dropped.as_slice())?;
+    print_fate_lines(out, step.fate)?;
+    print_logged_lines(out, names, step.logged.as_slice())?;
+    print_put_lines(out, names, step.put.as_slice())?;
+    print_control_lines(out, names, hosts, step.control.as_slice())?;
+    print_unrouted_lines(out, step.unrouted)
+}
