@@ -7,6 +7,7 @@ use Rattle.std.proofs.lemmas.Bool.Decides.{nat_tests}
 use Rattle.std.proofs.lemmas.List.{take_at, take_all}
 use Rattle.pipe_base.specs.declared.fault.Size.TheVariants.{Bytes}
 use Rattle.pipe_base.specs.Graph.{Graph}
+use Rattle.pipe_base.specs.Limits.{most_bytes}
 use Rattle.pipe_model.specs.declared.record.Record.{Record}
 use Rattle.pipe_text_input.specs.declared.input.Input.{Input}
 use Rattle.pipe_text_input.specs.declared.input.InputFault.{InputFault}
@@ -23,9 +24,9 @@ use Rattle.pipe_cli.specs.Replay.{IsOrderedRun, IsOverfull, IsRefusal, Replays, 
 use Rattle.pipe_cli.specs.Running.{IsStopped}
 
 -- what is short enough says what its content is
-pub short_says : (bytes : List ℕ) → length bytes ≤ 67108864 → says bytes ≡ told (content_of bytes)
+pub short_says : (bytes : List ℕ) → length bytes ≤ most_bytes → says bytes ≡ told (content_of bytes)
 short_says bytes few =
-    let test : nat_lt 67108864 (length bytes) ≡ false = grind (arith, nat_tests) in
+    let test : nat_lt most_bytes (length bytes) ≡ false = grind (arith, nat_tests) in
     ap (λ (t : Bool). if t then result.Err (TooLong Bytes 67108865) else told (content_of bytes)) test
 
 -- what was replayed asks for Ok
@@ -36,7 +37,7 @@ replay_runs form bytes trace text done = record { content = done.content; said =
 front_from : (rest : Option (List ℕ)) (bytes all : List ℕ) → WasRead (Some all) rest bytes → bytes ≡ take 67108865 all
 front_from None bytes all read = absurd read.consumed
 front_from (Some more) bytes all read =
-    elim (cases_lt 67108864 (length bytes)) [
+    elim (cases_lt most_bytes (length bytes)) [
       | inl many ↦ sym (ap (take 67108865) read.consumed ∙ take_at bytes more 67108865 (let limit = read.limit in omega arith))
       | inr few ↦
           let nothing : more ≡ [] = read.end few in
@@ -110,8 +111,8 @@ said_cases false told_as content is = (refl, told_ok told_as content is)
 pub does_replay : (form : Form) (words : List (List ℕ)) (left rest old new : Option (List ℕ)) (bytes text : List ℕ) (trace : List Record) (status : Status)
     → IsReplayForm form words → IsWritten status old new text → WasRead left rest bytes → Replays form bytes trace text → DoesReplay words status left rest old new trace
 does_replay form words left rest old new bytes text trace status form_is written read done =
-    let both = said_cases (nat_lt 67108864 (length bytes)) (content_of bytes) done.content done.said in
-    let within : length bytes ≤ 67108864 = let test = both.0 in grind (arith, nat_tests) in
+    let both = said_cases (nat_lt most_bytes (length bytes)) (content_of bytes) done.content done.said in
+    let within : length bytes ≤ most_bytes = let test = both.0 in grind (arith, nat_tests) in
     record {
       form = form;
       form_is = form_is;
@@ -125,7 +126,7 @@ does_replay form words left rest old new bytes text trace status form_is written
       written = subst (λ xs. IsWritten status old new xs) done.text_is written;
     }
 
-pub overfull : (bytes : List ℕ) (input : Input) (graph : Graph) (items : ℕ) → length bytes ≤ 67108864 → IsRead (content_of bytes) input → graph ≡ input.topology
+pub overfull : (bytes : List ℕ) (input : Input) (graph : Graph) (items : ℕ) → length bytes ≤ most_bytes → IsRead (content_of bytes) input → graph ≡ input.topology
     → IsStopped graph input.events items → IsOverfull bytes items
 overfull bytes input graph items few read graph_is stopped = record {
   content = record { names = input.names; plan = input.plan; events = input.events };
@@ -133,7 +134,7 @@ overfull bytes input graph items few read graph_is stopped = record {
   stopped = subst (λ (g : Graph). IsStopped g input.events items) (graph_is ∙ read.built) stopped;
 }
 
-pub replayed : (form : Form) (bytes text : List ℕ) (input : Input) (graph : Graph) (trace : List Record) → length bytes ≤ 67108864 → IsRead (content_of bytes) input → graph ≡ input.topology
+pub replayed : (form : Form) (bytes text : List ℕ) (input : Input) (graph : Graph) (trace : List Record) → length bytes ≤ most_bytes → IsRead (content_of bytes) input → graph ≡ input.topology
     → IsOrderedRun graph input.events trace → text ≡ replay_text form input.names graph trace → Replays form bytes trace text
 replayed form bytes text input graph trace few read graph_is run text_is = record {
   content = record { names = input.names; plan = input.plan; events = input.events };

@@ -1,7 +1,8 @@
 -- What the status of a call has to do with what was read and written.
-use Rattle.std.specs.Prelude.{◌≡◌, ◌≢◌, ◌⊎◌, ℕ, ◌<◌, ◌≤◌, List, length, take, Option, Some}
+use Rattle.std.specs.Prelude.{◌≡◌, ◌≢◌, ◌⊎◌, ℕ, ◌+◌, ◌<◌, ◌≤◌, List, length, take, Option, Some}
 use Rattle.std.specs.Prelude as result
 use Rattle.std.specs.Io.KnownBytes.{Appends, Consumes, IsAtEnd}
+use Rattle.pipe_base.specs.Limits.{most_bytes}
 use Rattle.pipe_base.specs.Outside.{Rose}
 use Rattle.pipe_model.specs.declared.record.Record.{Record}
 use Rattle.pipe_text_input.specs.Content.{Content, content_of}
@@ -77,7 +78,7 @@ pub record DoesReplay (words : List (List ℕ)) (status : Status) (left rest old
   pub content : Content
   pub read : Consumes left rest bytes
   pub end : IsAtEnd rest
-  pub within : length bytes ≤ 67108864
+  pub within : length bytes ≤ most_bytes
   pub input : content_of bytes ≡ result.Ok content
   pub run : IsOrderedRun (graph_of content.plan) content.events trace
   pub written : IsWritten status old new (replay_text form content.names (graph_of content.plan) trace)
@@ -85,4 +86,4 @@ pub record DoesReplay (words : List (List ℕ)) (status : Status) (left rest old
 -- Where nothing fails and there is memory, the status is what the first bytes of the source ask for.
 abbrev pub IsComplete : List (List ℕ) → Option (List ℕ) → Status → Type 0
 IsComplete words left status =
-    IsSomeForm words → (bytes : List ℕ) → left ≡ Some bytes → AsksFor (take 67108865 bytes) status ⊎ (status ≡ NoMemory)
+    IsSomeForm words → (bytes : List ℕ) → left ≡ Some bytes → AsksFor (take (most_bytes + 1) bytes) status ⊎ (status ≡ NoMemory)

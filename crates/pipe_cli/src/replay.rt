@@ -1,5 +1,6 @@
 // A replay: the events of an input, run one by one, and the text of the run.
 ghost use Rattle.std.specs.Prelude.{◌≡◌, ◌≤◌, ℕ, All, List, [], length, map, IfOk, IfErr, OnOk};
+ghost use Rattle.pipe_base.specs.Limits.{most_bytes};
 ghost use Rattle.pipe_model.specs.Run.{event_of};
 ghost use Rattle.pipe_text_input.specs.Content.{content_of};
 ghost use Rattle.pipe_text_input.specs.Read.{IsRead};
@@ -46,8 +47,8 @@ pub fn replay(alloc: Global, form: Form, bytes: &[u8]) -> Result<Replayed, Statu
 
 fn run_input(alloc: Global, form: Form, input: Input) -> Result<Replayed, Status>
     requires { All (CanHappen input.topology) input.events }
-    ensures ok { IfOk result (λ done. (bytes : List ℕ) → length bytes ≤ 67108864 → IsRead (content_of bytes) input → Replays form bytes done.trace done.text) }
-    ensures err { IfErr result (λ status. (bytes : List ℕ) → length bytes ≤ 67108864 → IsRead (content_of bytes) input → IsRefusal bytes status) }
+    ensures ok { IfOk result (λ done. (bytes : List ℕ) → length bytes ≤ most_bytes → IsRead (content_of bytes) input → Replays form bytes done.trace done.text) }
+    ensures err { IfErr result (λ status. (bytes : List ℕ) → length bytes ≤ most_bytes → IsRead (content_of bytes) input → IsRefusal bytes status) }
 {
     let Input {
         names,
