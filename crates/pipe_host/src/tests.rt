@@ -31,38 +31,90 @@ fn packet(alloc: Global, kind: PacketKind, ts: u64, be: u64) -> Packet {
     }
 }
 
-// The host has the in-link 1. It takes whatever it is handed, up to the end of the clock.
-#[test]
-fn logs_up_to_the_end_of_the_clock(rt: HostRuntime) -> Result<(), Fail> {
-    let alloc = rt.alloc();
-    let topology = star(&rt, alloc)?;
-    assert!(rt; topology.nodes() == 3);
-    assert!(rt; topology.is_host(NodeId(0)));
-    let mut host = Host::new(alloc, &topology, HostId(0))?;
+/// A packet on link 1, with its timestamp and best-effort barrier; a reading of the clock; a send to itself at a reading.
+#[derive(Clone, Copy)]
+enum Call {
+    Take(PacketKind, u64, u64),
+    Tick(u64),
+    Send(u64),
+}
+
+/// The outcome and fate of a step, how many messages it logged, packets it put and links went down; then how many are held.
+type Told = (Outcome, Option<Fate>, usize, usize, usize, u32);
+
+const END: Outcome = Outcome::ClockEnd {
+    next: Ts(LAST_BARRIER),
+};
+
+// The host takes whatever it is handed, up to the end of its clock.
+static CALLS: [(Call, Told); 6] = [
+    (
+        Call::Take(PacketKind::Plain, LAST_STAMP, 0),
+        (Outcome::Ok, Some(Fate::Held), 0, 0, 0, 1),
+    ),
+    (
+        Call::Take(PacketKind::Beacon, 0, LAST_BARRIER),
+        (Outcome::Ok, None, 1, 0, 0, 0),
+    ),
+    (Call::Send(5), (END, None, 0, 0, 0, 0)),
+    (Call::Tick(6), (Outcome::Ok, None, 0, 1, 0, 0)),
+    // Its one in-link is silent for the patience; then what comes on it is ignored.
+    (Call::Tick(1006), (Outcome::Ok, None, 0, 1, 1, 0)),
+    (
+        Call::Take(PacketKind::Plain, 3, 0),
+        (Outcome::Ignored, None, 0, 0, 0, 0),
+    ),
+];
+
+fn play(
+    rt: &impl Abort,
+    alloc: Global,
+    host: &mut Host,
+    call: Call,
+    step: &mut Step,
+) -> Result<(), Fail> {
+    match call {
+        Call::Take(kind, ts, be) => host.take(LinkId(1), packet(alloc, kind, ts, be), step)?,
+        Call::Tick(now) => host.tick(Ts(now), step)?,
+        Call::Send(now) => {
+            let mut dests = List::new(alloc);
+            dests.push((HostId(0), Body::empty(alloc)))?;
+            assert!(rt; dests.len() < 16);
+            host.send(Service::BestEffort, Ts(now), dests, step)?;
+        }
+    }
+    Ok(())
+}
+
+fn told(host: &Host, step: &Step) -> Told {
+    (
+        step.outcome,
+        step.fate,
+        step.logged.len(),
+        step.put.len(),
+        step.downed.len(),
+        host.held().len(),
+    )
+}
+
+fn play_all(rt: &impl Abort, alloc: Global, host: &mut Host) -> Result<(), Fail> {
     let mut step = Step::new(alloc);
-    let last = packet(alloc, PacketKind::Plain, LAST_STAMP, 0);
-    host.take(LinkId(1), last, &mut step)?;
-    assert_eq!(rt; step.fate, Some(Fate::Held));
-    assert_eq!(rt; host.held().len(), 1);
-    let end = packet(alloc, PacketKind::Beacon, 0, LAST_BARRIER);
-    host.take(LinkId(1), end, &mut step)?;
-    assert_eq!(rt; (step.logged.len(), host.held().len()), (1, 0));
+    for (call, wanted) in &CALLS {
+        play(rt, alloc, host, *call, &mut step)?;
+        assert_eq!(rt; told(host, &step), *wanted);
+    }
     assert_eq!(rt;
         (host.next(), host.promise()),
         (Ts(LAST_BARRIER), Ts(LAST_BARRIER))
     );
-    let mut dests = List::new(alloc);
-    dests.push((HostId(0), Body::empty(alloc)))?;
-    assert!(rt; dests.len() < 16);
-    host.send(Service::BestEffort, Ts(5), dests, &mut step)?;
-    let next = Ts(LAST_BARRIER);
-    assert_eq!(rt; step.outcome, Outcome::ClockEnd { next });
-    host.tick(Ts(6), &mut step)?;
-    assert_eq!(rt; (step.put.len(), step.downed.len()), (1, 0));
-    host.tick(Ts(1006), &mut step)?;
-    assert_eq!(rt; (step.put.len(), step.downed.len()), (1, 1));
-    let mut copy = host.try_clone()?;
-    copy.take(LinkId(1), packet(alloc, PacketKind::Plain, 3, 0), &mut step)?;
-    assert_eq!(rt; step.outcome, Outcome::Ignored);
     Ok(())
+}
+
+#[test]
+fn logs_up_to_the_end_of_the_clock(rt: HostRuntime) -> Result<(), Fail> {
+    let topology = star(&rt, rt.alloc())?;
+    assert!(rt; topology.nodes() == 3);
+    assert!(rt; topology.is_host(NodeId(0)));
+    let host = Host::new(rt.alloc(), &topology, HostId(0))?;
+    play_all(&rt, rt.alloc(), &mut host.try_clone()?)
 }

@@ -40,41 +40,49 @@ fn told(alloc: Global, step: &Step) -> Result<Vec<(u16, u64, u64)>, NoMemory> {
     Ok(all)
 }
 
+/// A packet that comes in on a link, with its two barriers; or a reading of the clock.
+#[derive(Clone, Copy)]
+enum Call {
+    Take(u16, PacketKind, u64, u64),
+    Tick(u64),
+}
+
 // The up half of a star has the links 0 and 2 from the hosts, and puts on its loop, link 4.
+static CALLS: [(Call, &[(u16, u64, u64)]); 6] = [
+    (Call::Take(0, PacketKind::Plain, 10, 11), &[(4, 0, 0)]),
+    (Call::Take(2, PacketKind::Beacon, 15, 15), &[]),
+    (Call::Tick(50), &[(4, 10, 11)]),
+    // Both links are silent for the patience. The best-effort barrier goes on past the first, the commit barrier does not.
+    (Call::Tick(150), &[(0, 11, 0), (2, 15, 0), (4, 15, 11)]),
+    // What comes on a link that is down is ignored.
+    (Call::Take(2, PacketKind::Plain, 20, 20), &[]),
+    (Call::Tick(151), &[(4, 15, 11)]),
+];
+
+fn play(alloc: Global, half: &mut Half, call: Call, step: &mut Step) -> Result<(), NoMemory> {
+    match call {
+        Call::Take(link, kind, be, commit) => {
+            half.take(LinkId(link), packet(alloc, kind, be, commit), step)
+        }
+        Call::Tick(now) => half.tick(Ts(now), step),
+    }
+}
+
+fn play_all(rt: &impl Abort, alloc: Global, half: &mut Half) -> Result<(), Fail> {
+    let mut step = Step::new(alloc);
+    for (call, wanted) in &CALLS {
+        play(alloc, half, *call, &mut step)?;
+        let told = told(alloc, &step)?;
+        assert_eq!(rt; told.as_slice(), *wanted);
+    }
+    Ok(())
+}
+
 #[test]
 fn passes_on_with_its_own_barriers(rt: HostRuntime) -> Result<(), Fail> {
-    let alloc = rt.alloc();
-    let topology = star(&rt, alloc)?;
+    let topology = star(&rt, rt.alloc())?;
     assert!(rt; topology.nodes() == 4);
     assert!(rt; topology.is_half(NodeId(2)));
-    let mut half = Half::new(alloc, &topology, NodeId(2))?;
-    let mut step = Step::new(alloc);
-    half.take(
-        LinkId(0),
-        packet(alloc, PacketKind::Plain, 10, 11),
-        &mut step,
-    )?;
-    assert_eq!(rt; told(alloc, &step)?.as_slice(), [(4, 0, 0)].as_slice());
-    half.take(
-        LinkId(2),
-        packet(alloc, PacketKind::Beacon, 15, 15),
-        &mut step,
-    )?;
-    assert!(rt; told(alloc, &step)?.is_empty());
-    half.tick(Ts(50), &mut step)?;
-    assert_eq!(rt; told(alloc, &step)?.as_slice(), [(4, 10, 11)].as_slice());
-    // Both links are silent for the patience. The best-effort barrier goes on past the first, the commit barrier does not.
-    half.tick(Ts(150), &mut step)?;
-    assert_eq!(rt;
-        told(alloc, &step)?.as_slice(),
-        [(0, 11, 0), (2, 15, 0), (4, 15, 11)].as_slice()
-    );
-    let mut copy = half.try_clone()?;
-    copy.take(
-        LinkId(2),
-        packet(alloc, PacketKind::Plain, 20, 20),
-        &mut step,
-    )?;
-    assert_eq!(rt; step.outcome, Outcome::Ignored);
-    Ok(())
+    let half = Half::new(rt.alloc(), &topology, NodeId(2))?;
+    play_all(&rt, rt.alloc(), &mut half.try_clone()?)
 }
