@@ -40,7 +40,7 @@ enum Call {
 }
 
 /// The outcome and fate of a step, how many messages it logged, packets it put and links went down; then how many are held.
-type Told = (Outcome, Option<Fate>, usize, usize, usize, u32);
+type Told = (Outcome, Option<Fate>, usize, usize, usize, usize);
 
 const END: Outcome = Outcome::ClockEnd {
     next: Ts(LAST_BARRIER),
