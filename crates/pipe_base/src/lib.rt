@@ -28,6 +28,3 @@ pub use packet::{Packet, PacketKind, Plane};
 pub use router::Router;
 pub use steady::{SteadySink, SteadySource};
 pub use step::{AddressedList, DownList, Fate, Outcome, PutList, Step};
-
-#[cfg(test)]
-mod tests;

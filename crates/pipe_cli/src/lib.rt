@@ -14,6 +14,3 @@ pub use laws::inputs_ask_for_one_status;
 pub use status::{Status, exit_number};
 pub use top::{Outcome, run};
 pub use words::{Form, Words};
-
-#[cfg(test)]
-mod tests;

@@ -6,6 +6,3 @@ mod clock;
 
 pub use best::BeSend;
 pub use clock::{ClockEnd, HostClock};
-
-#[cfg(test)]
-mod tests;

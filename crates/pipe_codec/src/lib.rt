@@ -19,6 +19,3 @@ pub use law::{
 };
 pub use packet::{PacketRef, decode, own};
 pub use packet_bytes::encode;
-
-#[cfg(test)]
-mod tests;

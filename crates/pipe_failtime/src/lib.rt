@@ -9,8 +9,6 @@ mod links;
 mod reach;
 mod reported;
 mod rounds;
-#[cfg(test)]
-mod tests;
 mod time;
 
 pub use cut::is_cut;

@@ -6,6 +6,3 @@ mod host;
 mod times;
 
 pub use host::Host;
-
-#[cfg(test)]
-mod tests;

@@ -7,6 +7,3 @@ mod record;
 
 pub use event::{Event, EventList};
 pub use record::{Record, Took, Trace};
-
-#[cfg(test)]
-mod tests;

@@ -3,7 +3,5 @@
 
 mod firsts;
 mod routes;
-#[cfg(test)]
-mod tests;
 
 pub use routes::Routes;

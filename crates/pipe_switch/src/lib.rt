@@ -4,6 +4,3 @@
 mod half;
 
 pub use half::Half;
-
-#[cfg(test)]
-mod tests;

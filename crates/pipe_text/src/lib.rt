@@ -19,6 +19,3 @@ pub use word::{is_skipped, words_of};
 
 /// A text, as its bytes.
 pub type Text = List<u8>;
-
-#[cfg(test)]
-mod tests;

@@ -8,6 +8,3 @@ mod read;
 pub use input::{Input, InputFault};
 pub use laws::inputs_have_networks;
 pub use read::read_input;
-
-#[cfg(test)]
-mod tests;

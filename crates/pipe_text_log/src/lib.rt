@@ -5,6 +5,3 @@ mod collect;
 mod print;
 
 pub use print::print_logs;
-
-#[cfg(test)]
-mod tests;

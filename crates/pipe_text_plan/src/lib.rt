@@ -25,6 +25,3 @@ pub use fault::{KeyName, PlanError, PlanFault};
 pub use laws::described_plans_have_no_fault;
 pub use name::is_name;
 pub use read::{PlanInput, read_plan};
-
-#[cfg(test)]
-mod tests;

@@ -12,6 +12,3 @@ mod send;
 
 pub use laws::schedules_can_happen;
 pub use schedule::{ScheduleFault, read_schedule};
-
-#[cfg(test)]
-mod tests;

@@ -12,6 +12,3 @@ mod word;
 
 pub use event::print_event;
 pub use trace::print_trace;
-
-#[cfg(test)]
-mod tests;

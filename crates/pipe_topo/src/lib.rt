@@ -15,8 +15,6 @@ mod reach;
 mod reports;
 mod shape;
 mod tables;
-#[cfg(test)]
-mod tests;
 mod topology;
 mod walk;
 mod wiring;

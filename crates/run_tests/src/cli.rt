@@ -1,6 +1,6 @@
 // The program over the forms in memory: worked inputs with their logs, refusals with their lines, faults of the outside.
 
-use crate::{Outcome, Status, Words, exit_number, run};
+use pipe_cli::{Outcome, Status, Words, exit_number, run};
 use pipe_base::{
     LinkId, List, MemorySink, MemorySource, Packet, PacketKind, Size, SteadySink, SteadySource,
 };

@@ -1,6 +1,6 @@
 // What no clause says: that the calls which take memory succeed with ample memory, and the values of the forms in memory.
 
-use crate::*;
+use pipe_base::*;
 use std::alloc::Global;
 use std::test::Fail;
 

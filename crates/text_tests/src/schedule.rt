@@ -1,7 +1,7 @@
 // What no clause says: that reading succeeds where there is memory, and the lines and their faults as the formats give
 // them.
 
-use crate::{ScheduleFault, read_schedule};
+use pipe_text_schedule::{ScheduleFault, read_schedule};
 use pipe_base::Ts;
 use pipe_model::EventList;
 use pipe_text::LineKind;

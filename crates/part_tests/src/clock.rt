@@ -1,6 +1,6 @@
 // What no clause says: a clock's stamps worked out by hand, up to its end.
 
-use crate::{ClockEnd, HostClock};
+use pipe_clock::{ClockEnd, HostClock};
 use pipe_base::{LAST_STAMP, Ts};
 use std::test::Fail;
 

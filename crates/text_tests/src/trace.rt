@@ -1,6 +1,6 @@
 // What no clause says: that the calls succeed where there is memory, and the lines as the format gives them.
 
-use crate::{print_event, print_trace};
+use pipe_text_trace::{print_event, print_trace};
 use pipe_base::{
     Addressed, Announced, Body, Control, Entry, Fate, HostId, Key, LinkId, List, NodeId, Outcome,
     Packet, PacketKind, Service, Step, To, Ts,

@@ -1,6 +1,6 @@
 // What no clause says: that worlds and steps succeed with ample memory, and traces worked out by hand from the rules.
 
-use crate::World;
+use pipe_world::World;
 use pipe_base::{
     Body, Fate, HostId, LAST_STAMP, LinkId, List, NodeId, Outcome, Packet, PacketKind, Service, Ts,
 };

@@ -4,7 +4,7 @@
 ghost use Rattle.std.specs.Prelude.{◌≡◌};
 ghost use Rattle.pipe_codec.specs.Packet.{IsSendable};
 
-use crate::*;
+use pipe_codec::*;
 use pipe_base::{Body, BodyFault, HostId, Packet, PacketKind, Ts};
 use std::test::Fail;
 

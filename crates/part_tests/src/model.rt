@@ -1,6 +1,6 @@
 // That copies succeed with ample memory.
 
-use crate::{Event, Record, Took};
+use pipe_model::{Event, Record, Took};
 use pipe_base::{NodeId, Step, Ts};
 use std::test::Fail;
 

@@ -1,7 +1,7 @@
 // What no clause says: that the calls succeed where there is memory, and the faults as the formats name them. The helpers
 // promise nothing, so that a test has few facts to carry.
 
-use crate::{PlanError, PlanFault, PlanInput, is_name, lines_read, parts_of, read_plan};
+use pipe_text_plan::{PlanError, PlanFault, PlanInput, is_name, lines_read, parts_of, read_plan};
 use std::alloc::{AllocError, Global};
 use std::process::Abort;
 

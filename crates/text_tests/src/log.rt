@@ -1,6 +1,6 @@
 // The text of a small trace, as the format has it.
 
-use crate::print_logs;
+use pipe_text_log::print_logs;
 use pipe_base::{Body, Entry, HostId, Key, LinkId, List, Service, Step, Ts};
 use pipe_model::{Event, Record, Took};
 use pipe_topo::{Names, Plan, Topology};

@@ -1,7 +1,7 @@
 // What no clause says: that reading succeeds where there is memory, and the first fault of each input as the formats give
 // it.
 
-use crate::{Input, InputFault, read_input};
+use pipe_text_input::{Input, InputFault, read_input};
 use pipe_base::{LinkId, Ts};
 use pipe_model::Event;
 use pipe_text::LineKind;
