@@ -3,7 +3,6 @@ ghost use Rattle.std.specs.Prelude.{◌≡◌, ◌++◌, ◌<◌, ℕ, List, len
 ghost use Rattle.pipe_base.specs.Graph.{Graph};
 ghost use Rattle.pipe_model.specs.declared.record.Record.{Record};
 ghost use Rattle.pipe_text_log.specs.Collected.{entries, AreLogs, AreLogsOf};
-ghost use Rattle.pipe_text.specs.Name.{name_of};
 ghost use Rattle.pipe_text_log.specs.LogText.{service_text, host_text, hosts_text, log_text};
 
 use crate::collect::{Log, collect};
@@ -12,16 +11,6 @@ use pipe_model::Trace;
 use pipe_text::{Text, print_log_head, print_log_line};
 use pipe_topo::{Names, Topology};
 use std::alloc::Global;
-
-fn name_of(names: &Names, host: u16) -> &str
-    ensures { result.now ≡ name_of names.now host }
-{
-    if host < names.len() {
-        names.name(host)
-    } else {
-        ""
-    }
-}
 
 fn print_service(
     out: &mut Vec<u8>,
@@ -32,12 +21,12 @@ fn print_service(
 ) -> Result<(), NoMemory>
     ensures { OnOk result (out.new.items ≡ out.old.items ++ service_text names.now host service (entries log.now)) }
 {
-    print_log_head(out, name_of(names, host), service, log.len())?;
+    print_log_head(out, names.name(host), service, log.len())?;
     'entries: for entry in log {
         print_log_line(
             out,
             entry.key.ts,
-            name_of(names, entry.key.src.0),
+            names.name(entry.key.src.0),
             entry.body.bytes(),
         )?;
     }

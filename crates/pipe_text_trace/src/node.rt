@@ -8,18 +8,11 @@ use crate::word::print_word;
 use pipe_base::{HostId, NoMemory, NodeId};
 use pipe_topo::Names;
 
-/// The name with this number, which is empty where there is none.
-pub fn name_of(names: &Names, at: u16) -> &str
-    ensures { result.now ≡ name_of names.now at }
-{
-    if at < names.len() { names.name(at) } else { "" }
-}
-
 /// A host after another word.
 pub fn print_host(out: &mut Vec<u8>, names: &Names, host: HostId) -> Result<(), NoMemory>
     ensures { OnOk result (out.new.items ≡ out.old.items ++ next_words (name_of names.now host.0 ∷ [])) }
 {
-    print_word(out, name_of(names, host.0).as_bytes())
+    print_word(out, names.name(host.0).as_bytes())
 }
 
 fn half_text(place: u16) -> &'static [u8]
@@ -38,10 +31,10 @@ pub fn print_node(
     ensures { OnOk result (out.new.items ≡ out.old.items ++ next_words (node_name names.now hosts node.0 ∷ [])) }
 {
     if node.0 < hosts {
-        return print_word(out, name_of(names, node.0).as_bytes());
+        return print_word(out, names.name(node.0).as_bytes());
     }
     let half = node.0 - hosts;
-    print_word(out, name_of(names, hosts + half / 2).as_bytes())?;
+    print_word(out, names.name(hosts + half / 2).as_bytes())?;
     out.extend_from_slice(half_text(half % 2))?;
     Ok(())
 }

@@ -57,12 +57,15 @@ impl Names {
         Some(number as u16)
     }
 
-    /// The name with this number.
+    /// The name with this number, which is empty where there is none.
     pub fn name(&self, at: u16) -> &str
-        requires { at < length self.now }
         ensures { result.now ≡ slice_index_or self.now at [] }
     {
-        self.names[usize::from(at)].as_str()
+        if at < self.len() {
+            self.names[usize::from(at)].as_str()
+        } else {
+            ""
+        }
     }
 
     pub fn len(&self) -> u16
