@@ -1,4 +1,6 @@
 pub mod Entries
+pub mod Links
 pub mod Own
 pub mod Rising
+pub mod Stamps
 pub mod Steps

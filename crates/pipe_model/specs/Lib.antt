@@ -8,6 +8,8 @@ pub mod Items
 pub mod Logged
 pub mod Marks
 pub mod Moments
+pub mod NeverLate
+pub mod OnLink
 pub mod Order
 pub mod Outcome
 pub mod OwnOutcome

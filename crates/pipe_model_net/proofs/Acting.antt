@@ -1,5 +1,5 @@
 -- A record of a history is some node's own, or nobody's and quiet.
-use Rattle.std.proofs.Common.{◌≡◌, ◌⊎◌, ℕ, ◌==◌, ◌&&◌, not, Bool, true, false, List, [], refl, inl, inr, ap, arith}
+use Rattle.std.proofs.Common.{◌≡◌, ◌⊎◌, ℕ, ◌==◌, not, Bool, true, false, List, [], refl, inl, inr, ap, arith}
 use Rattle.std.proofs.lemmas.Bool.{and_right}
 use Rattle.pipe_base.specs.declared.control.To.{To}
 use Rattle.pipe_base.specs.declared.control.To.TheVariants.{Node}

@@ -1,5 +1,5 @@
 -- A run is determined by its events: the rules leave nothing of a record open.
-use Rattle.std.proofs.Common.{◌≡◌, ◌⊎◌, ℕ, Bool, true, false, not, ◌&&◌, List, [], ◌∷◌, Option, map, refl, inl, inr, sym, subst, ap, ◌∙◌}
+use Rattle.std.proofs.Common.{◌≡◌, ℕ, true, List, [], ◌∷◌, Option, map, refl, inl, inr, sym, subst, ap, ◌∙◌}
 use Rattle.pipe_base.specs.declared.control.Announced.{Announced}
 use Rattle.pipe_base.specs.declared.control.Addressed.{Addressed}
 use Rattle.pipe_base.specs.declared.message.Entry.{Entry}
@@ -15,7 +15,7 @@ use Rattle.pipe_base.specs.Step.{quiet_step}
 use Rattle.pipe_model.specs.declared.event.Event.{Event}
 use Rattle.pipe_model.specs.declared.record.Record.{Record}
 use Rattle.pipe_model.specs.declared.record.Took.{Took}
-use Rattle.pipe_model.specs.Acting.{acts, is_idle, is_own, own}
+use Rattle.pipe_model.specs.Acting.{is_own, own}
 use Rattle.pipe_model.specs.Duties.{put, unrouted}
 use Rattle.pipe_model.specs.Logged.{logged}
 use Rattle.pipe_model.specs.Outcome.{took_of}

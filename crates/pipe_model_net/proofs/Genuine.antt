@@ -56,7 +56,7 @@ brought_by true true false d node q p dst kind here is = cc
 brought_by true false c d node q p dst kind here is = cc
 brought_by false b c d node q p dst kind here is = cc
 
-brings : (graph : Graph) (node : ℕ) (q : ℕ × Packet) (p : Packet) → message_of BestEffort (gets_of graph node (Some q)) ≡ Some p → Brings node q p
+pub brings : (graph : Graph) (node : ℕ) (q : ℕ × Packet) (p : Packet) → message_of BestEffort (gets_of graph node (Some q)) ≡ Some p → Brings node q p
 brings graph node q p is = brought_by (is_host graph node) (q.1.dst.0 == node) (not (is_beacon q.1.kind)) (carries BestEffort q.1.kind) node q p refl refl refl is
 
 -- the message that a record brings was sent before

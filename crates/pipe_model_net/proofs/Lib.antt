@@ -1,5 +1,14 @@
 pub mod Acting
 pub mod Determined
+pub mod Events
 pub mod Genuine
+pub mod NeverLate
+pub mod Ordered
 pub mod Packets
+pub mod Promised
+pub mod PutInOrder
+pub mod Puts
+pub mod Receipts
 pub mod Sent
+pub mod Settled
+pub mod Timely

@@ -34,7 +34,7 @@ chosen_put true P p ps here all = All-cons P p ps here all
 chosen_put false P p ps here all = all
 
 -- what was put on one link is among all that was put
-put_all : (P : Packet → Type 0) (link : ℕ) (puts : List (LinkId × Packet)) → All (λ q. P q.1) puts → All P (put_on link puts)
+pub put_all : (P : Packet → Type 0) (link : ℕ) (puts : List (LinkId × Packet)) → All (λ q. P q.1) puts → All P (put_on link puts)
 put_all P link [] all = All-nil P
 put_all P link (q ∷ qs) all =
     chosen_put (q.0.0 == link) P q.1 (put_on link qs) (All-head (λ (x : LinkId × Packet). P x.1) q qs all)

@@ -64,7 +64,7 @@ on_way_all : (P : Packet → Type 0) (o : Option LinkId) (p : Packet) (puts : Li
 on_way_all P None p puts here all = all
 on_way_all P (Some l) p puts here all = All-cons (λ (q : LinkId × Packet). P q.1) (l, p) puts here all
 
-routed_all : (P : Packet → Type 0) (way : ℕ → ℕ → Option LinkId) (ps : List Packet) → All P ps → All (λ q. P q.1) (routed way ps)
+pub routed_all : (P : Packet → Type 0) (way : ℕ → ℕ → Option LinkId) (ps : List Packet) → All P ps → All (λ q. P q.1) (routed way ps)
 routed_all P way [] all = All-nil (λ (q : LinkId × Packet). P q.1)
 routed_all P way (p ∷ ps) all =
     on_way_all P (way p.src.0 p.dst.0) p (routed way ps) (All-head P p ps all) (routed_all P way ps (All-tail P p ps all))

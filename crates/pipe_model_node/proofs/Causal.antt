@@ -1,23 +1,19 @@
 -- A node's next timestamp is above all that it logged, and its stamps are not below it.
-use Rattle.std.proofs.Common.{◌≡◌, ℕ, ◌<◌, ◌≤◌, List, [], ◌∷◌, Option, None, Some, IfSome, refl, arith, sym, ◌∙◌, ap}
+use Rattle.std.proofs.Common.{◌≡◌, ℕ, ◌<◌, ◌≤◌, List, [], ◌∷◌, Option, None, Some, IfSome, refl, arith, sym, ◌∙◌}
 use Rattle.std.specs.List.{All}
 use Rattle.std.proofs.lemmas.List.Elements.{All-nil, All-cons, All-append, All-weaker}
 use Rattle.pipe_base.specs.declared.message.Entry.{Entry}
 use Rattle.pipe_base.specs.declared.message.Service.{Service}
 use Rattle.pipe_base.specs.declared.name.Ts.{Ts}
-use Rattle.pipe_base.specs.declared.step.Outcome.{Outcome}
-use Rattle.pipe_base.specs.declared.step.Outcome.TheVariants.{Ok}
-use Rattle.pipe_base.specs.Clock.{after_logged, stamp_at}
+use Rattle.pipe_base.specs.Clock.{after_logged}
 use Rattle.pipe_base.specs.Graph.{Graph}
-use Rattle.pipe_model.specs.declared.event.Event.{Event}
-use Rattle.pipe_model.specs.declared.event.Event.TheVariants.{Send}
 use Rattle.pipe_model.specs.declared.record.Record.{Record}
 use Rattle.pipe_model.specs.Clock.{next}
-use Rattle.pipe_model.specs.OwnOutcome.{send_outcome, stamped, where_ok}
 use Rattle.pipe_model.specs.Logged.{log, entries_of}
 use Rattle.pipe_model.specs.Order.{IsAboveLogs, IsCausal}
 use Rattle.pipe_model.specs.Run.{IsNodeHistory}
 use Rattle.pipe_model.proofs.Entries.{entries_all}
+use Rattle.pipe_model.proofs.Stamps.{stamp_above}
 
 -- an entry below a timestamp
 abbrev pub Below : ℕ → Entry → Type 0
@@ -41,16 +37,6 @@ log_below_next service (r ∷ own) =
     (All-weaker (Below (next own)) (Below (next (r ∷ own))) before (log service own) (log_below_next service own))
     (All-weaker (Below (after_logged r.step.logged)) (Below (next (r ∷ own))) now (entries_of service r.step.logged)
     (entries_all (Below (after_logged r.step.logged)) service r.step.logged (logged_below r.step.logged)))
-
-stamp_where : (o : Outcome) (stamp : ℕ) (ts : Ts) → where_ok o stamp ≡ Some ts → stamp ≡ ts.0
-stamp_where Ok stamp ts is = cc
-stamp_where _ stamp ts is = cc
-
--- a stamp is not below the next timestamp
-stamp_above : (graph : Graph) (node : ℕ) (own : List Record) (event : Event) (ts : Ts) → stamped graph node own event ≡ Some ts → next own ≤ ts.0
-stamp_above graph node own (Send host service now dests) ts is =
-    let same : stamp_at now.0 (next own) ≡ ts.0 = stamp_where (send_outcome now.0 (next own)) (stamp_at now.0 (next own)) ts is in omega arith
-stamp_above graph node own _ ts is = cc
 
 above_logs : (own : List Record) (o : Option Ts) → ((ts : Ts) → o ≡ Some ts → next own ≤ ts.0) → IfSome o (λ ts. IsAboveLogs ts.0 own)
 above_logs own None above = tt

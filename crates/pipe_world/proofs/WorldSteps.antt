@@ -29,6 +29,7 @@ use Rattle.pipe_model.specs.Moments.{moments_of}
 use Rattle.pipe_model.specs.Outcome.{has_crashed, is_crash_of, item_at, outcome_at, outcome_of, took_at}
 use Rattle.pipe_model.specs.OwnOutcome.{own_outcome}
 use Rattle.pipe_model.specs.Run.{IsHistory, IsNodeStep, IsStep}
+use Rattle.pipe_model.proofs.Links.{comes_by}
 use Rattle.pipe_model.proofs.Own.{own_more, own_same}
 use Rattle.pipe_world.specs.declared.node.Node.{Node}
 use Rattle.pipe_world.specs.declared.happen.Work.{Work}
@@ -109,14 +110,6 @@ owned graph id own r at step =
     and_from (acts graph id.0 r.event r.took) (not (is_idle r.step.outcome)) (acts_here graph id r.event r.took at) (ap not busy)
 
 -- a take is from a link into the acting node
-comes_by : (graph : Graph) (node link : ℕ) → link < length graph.links → node ≡ head_of graph link → has_link link (ins_of graph node) ≡ true
-comes_by graph node link lt at =
-    let all : has_link link (all_links graph) ≡ true =
-    list_any_at (λ (l : LinkId). l.0 == link) (all_links graph) link (link_id 0) (omega (arith, length-map-range_with_len link_id 0 (length graph.links)))
-    (ap (λ (l : LinkId). l.0 == link) (get_or-map-range_with_len link_id 0 (length graph.links) link link (link_id 0) lt (omega arith)) ∙ eq-eqb link link refl) in
-    filter-among (λ (l : LinkId). head_of graph l.0 == node) link (all_links graph)
-    (λ l same. eq-eqb (head_of graph l.0) node (ap (head_of graph) same ∙ sym at)) all
-
 pub comes_in : (graph : Graph) (id : NodeId) (event : Event) → IsOfGraph graph event → ActsAt graph id event → ComesIn graph id.0 event
 comes_in graph id (Take link place keep) names at = comes_by graph id.0 link.0 names at
 comes_in graph id _ names at = tt

@@ -1,0 +1,120 @@
+-- What a record receives waited on its link, and what it does to the greatest field received on a link.
+use Rattle.std.proofs.Common.{◌≡◌, ℕ, ◌≤◌, max, ◌==◌, ◌&&◌, if◌then◌else◌, Bool, true, false, List, [], ◌∷◌, Option, None, Some, refl, sym, subst, ap, ◌∙◌, arith, eqb-true}
+use Rattle.std.specs.List.{slice_get}
+use Rattle.pipe_base.specs.declared.name.LinkId.{LinkId}
+use Rattle.pipe_base.specs.declared.name.Ts.{Ts}
+use Rattle.pipe_base.specs.declared.packet.Packet.{Packet}
+use Rattle.pipe_base.specs.declared.packet.Plane.TheVariants as plane
+use Rattle.pipe_base.specs.Barrier.{register}
+use Rattle.pipe_base.specs.Graph.{Graph, head_of}
+use Rattle.pipe_base.specs.Moment.{Moment, WentDown, Dropped, is_up, keeps_links, with_received, with_downed, with_dropped}
+use Rattle.pipe_model.specs.declared.event.Event.{Event}
+use Rattle.pipe_model.specs.declared.event.Event.TheVariants.{Take}
+use Rattle.pipe_model.specs.declared.record.Record.{Record}
+use Rattle.pipe_model.specs.declared.record.Took.{Took}
+use Rattle.pipe_model.specs.declared.record.Took.TheVariants.{Nothing}
+use Rattle.pipe_model.specs.Acting.{is_idle, is_own, own}
+use Rattle.pipe_model.specs.Moments.{moments_of, received, received_of, taken_from}
+use Rattle.pipe_model.specs.OnLink.{best_received}
+use Rattle.pipe_model.specs.Outcome.{outcome_of, took_at, took_of}
+use Rattle.pipe_model.specs.Run.{IsStep}
+use Rattle.pipe_model.specs.Waiting.{waiting_on}
+use Rattle.pipe_model.proofs.Own.{own_more, own_same}
+
+-- ---- the packet received
+
+-- The record takes the packet at a place of its link, where it waited, and the link is up.
+pub record Receives (past : List Record) (moments : List Moment) (event : Event) (q : ℕ × Packet) : Type 0 where
+  pub link : LinkId
+  pub place : ℕ
+  pub keep : Bool
+  pub event_is : event ≡ Take link place keep
+  pub link_is : link.0 ≡ q.0
+  pub waited : slice_get (waiting_on q.0 past) place ≡ Some q.1
+  pub up : is_up moments q.0 ≡ true
+
+from_up : (past : List Record) (moments : List Moment) (link : LinkId) (place : ℕ) (keep : Bool) (p : Packet) (q : ℕ × Packet) (same up : Bool)
+    → is_up moments link.0 ≡ up → slice_get (waiting_on link.0 past) place ≡ Some p → (if same && up then Some (link.0, p) else None) ≡ Some q
+    → Receives past moments (Take link place keep) q
+from_up past moments link place keep p q true true up waits is =
+    let number : link.0 ≡ q.0 = cc in
+    let packet : p ≡ q.1 = cc in
+    record {
+      link = link;
+      place = place;
+      keep = keep;
+      event_is = refl;
+      link_is = number;
+      waited = subst (λ (n : ℕ). slice_get (waiting_on n past) place ≡ Some q.1) number (waits ∙ ap (λ (x : Packet). Some x) packet);
+      up = subst (λ (n : ℕ). is_up moments n ≡ true) number up;
+    }
+from_up past moments link place keep p q true false up waits is = cc
+from_up past moments link place keep p q false up is_it waits is = cc
+
+from_item : (past : List Record) (moments : List Moment) (link : LinkId) (place : ℕ) (keep idle : Bool) (o : Option Packet) (q : ℕ × Packet)
+    → slice_get (waiting_on link.0 past) place ≡ o → taken_from moments link.0 (if idle then Nothing else took_at link o) ≡ Some q
+    → Receives past moments (Take link place keep) q
+from_item past moments link place keep true o q waits is = cc
+from_item past moments link place keep false None q waits is = cc
+from_item past moments link place keep false (Some p) q waits is =
+    from_up past moments link place keep p q (link.0 == link.0) (is_up moments link.0) refl waits is
+
+by_event : (graph : Graph) (past : List Record) (moments : List Moment) (event : Event) (took : Took) (q : ℕ × Packet) → took ≡ took_of graph past event
+    → received_of moments event took ≡ Some q → Receives past moments event q
+by_event graph past moments (Take link place keep) took q took_is is =
+    from_item past moments link place keep (is_idle (outcome_of graph past (Take link place keep))) (slice_get (waiting_on link.0 past) place) q refl
+    (subst (λ (t : Took). taken_from moments link.0 t ≡ Some q) took_is is)
+by_event graph past moments _ took q took_is is = cc
+
+pub receives : (graph : Graph) (past own : List Record) (r : Record) (q : ℕ × Packet) → IsStep graph past r → received own r ≡ Some q
+    → Receives past (moments_of own) r.event q
+receives graph past own r q step is = by_event graph past (moments_of own) r.event r.took q step.took_is is
+
+-- ---- the greatest field received
+
+register_downed : (ds : List (LinkId × Ts)) (past : List Moment) (link : ℕ) → register plane.BestEffort (with_downed ds past) link ≡ register plane.BestEffort past link
+register_downed [] past link = refl
+register_downed (d ∷ ds) past link = register_downed ds (WentDown d.0.0 ∷ past) link
+
+register_dropped : (ls : List LinkId) (past : List Moment) (link : ℕ) → register plane.BestEffort (with_dropped ls past) link ≡ register plane.BestEffort past link
+register_dropped [] past link = refl
+register_dropped (l ∷ ls) past link = register_dropped ls (Dropped l.0 ∷ past) link
+
+-- a packet received on the link has at most this field
+abbrev pub ReceivedBelow : ℕ → ℕ → Option (ℕ × Packet) → Type 0
+ReceivedBelow link bound o = (q : ℕ × Packet) → o ≡ Some q → q.0 ≡ link → q.1.be.0 ≤ bound
+
+max_below : (b : Bool) (l link old field bound : ℕ) → (l == link) ≡ b → old ≤ bound → (l ≡ link → field ≤ bound) → (if b then max old field else old) ≤ bound
+max_below true l link old field bound is low here = let le : field ≤ bound = here (eqb-true l link is) in omega arith
+max_below false l link old field bound is low here = low
+
+register_received : (looked : Bool) (o : Option (ℕ × Packet)) (past : List Moment) (link bound : ℕ) → register plane.BestEffort past link ≤ bound
+    → ReceivedBelow link bound o → register plane.BestEffort (with_received looked o past) link ≤ bound
+register_received looked None past link bound low below = low
+register_received true (Some q) past link bound low below =
+    max_below (q.0 == link) q.0 link (register plane.BestEffort past link) q.1.be.0 bound refl low (below q refl)
+register_received false (Some q) past link bound low below =
+    max_below (q.0 == link) q.0 link (register plane.BestEffort past link) q.1.be.0 bound refl low (below q refl)
+
+register_more : (own : List Record) (r : Record) (link bound : ℕ) → register plane.BestEffort (moments_of own) link ≤ bound → ReceivedBelow link bound (received own r)
+    → register plane.BestEffort (moments_of (r ∷ own)) link ≤ bound
+register_more own r link bound low below =
+    let before : List Moment = with_received (keeps_links r.step.downed r.step.dropped) (received own r) (moments_of own) in
+    let same : register plane.BestEffort (moments_of (r ∷ own)) link ≡ register plane.BestEffort before link =
+    register_dropped r.step.dropped (with_downed r.step.downed before) link ∙ register_downed r.step.downed before link in
+    subst (λ (n : ℕ). n ≤ bound) (sym same) (register_received (keeps_links r.step.downed r.step.dropped) (received own r) (moments_of own) link bound low below)
+
+more_received : (b : Bool) (graph : Graph) (link bound : ℕ) (past : List Record) (r : Record) → is_own graph (head_of graph link) r ≡ b
+    → best_received graph link past ≤ bound → ReceivedBelow link bound (received (own graph (head_of graph link) past) r)
+    → best_received graph link (r ∷ past) ≤ bound
+more_received true graph link bound past r is low below =
+    subst (λ (o : List Record). register plane.BestEffort (moments_of o) link ≤ bound) (sym (own_more graph (head_of graph link) r past is))
+    (register_more (own graph (head_of graph link) past) r link bound low below)
+more_received false graph link bound past r isnt low below =
+    subst (λ (o : List Record). register plane.BestEffort (moments_of o) link ≤ bound) (sym (own_same graph (head_of graph link) r past isnt)) low
+
+-- what bounds the greatest field before the record and what it receives, bounds it after the record
+pub received_below : (graph : Graph) (link bound : ℕ) (past : List Record) (r : Record) → best_received graph link past ≤ bound
+    → ReceivedBelow link bound (received (own graph (head_of graph link) past) r)
+    → best_received graph link (r ∷ past) ≤ bound
+received_below graph link bound past r low below = more_received (is_own graph (head_of graph link) r) graph link bound past r refl low below
