@@ -1,21 +1,18 @@
 -- One event of the world: its record is what the rules say, and what is kept follows it.
-use Rattle.std.proofs.Common.{◌≡◌, ◌≢◌, ℕ, ◌<◌, ◌==◌, Bool, true, false, if◌then◌else◌, List, [], ◌∷◌, ◌++◌, length, set, refl, sym, subst, ap, ◌∙◌, arith, inl, inr, eq-eqb, ne_eqb}
+use Rattle.std.proofs.Common.{◌≡◌, ◌≢◌, ℕ, ◌<◌, Bool, true, false, if◌then◌else◌, List, [], ◌∷◌, ◌++◌, length, set, refl, sym, subst, ap, ◌∙◌, arith, inl, inr, eq-eqb, ne_eqb}
 use Rattle.std.specs.Prelude.{nat_le, nat_lt, not, reverse, slice_get, slice_index_or, Result, OnOk, OnErr}
 use Rattle.std.specs.Prelude.{Ok as ResultOk, Err as ResultErr}
 use Rattle.std.proofs.lemmas.Bool.{and_from, and_left, both_ways, cases_eq, lt-ltb}
-use Rattle.std.proofs.lemmas.List.Folds.{list_any_at}
-use Rattle.std.proofs.lemmas.List.FromFn.{get_or-map-range_with_len, length-map-range_with_len}
+use Rattle.std.proofs.lemmas.List.Elements.{All-cons}
 use Rattle.std.proofs.lemmas.List.{reverse-append, get_or-set_same, get_or-set_other, length-set}
-use Rattle.pipe_base.specs.declared.name.LinkId.{LinkId}
 use Rattle.pipe_base.specs.declared.name.NodeId.{NodeId}
 use Rattle.pipe_base.specs.declared.packet.Packet.{Packet}
 use Rattle.pipe_base.specs.declared.step.Outcome.{Outcome}
 use Rattle.pipe_base.specs.declared.step.Outcome.TheVariants.{Ok, ClockEnd, Crashed, Ignored}
 use Rattle.pipe_base.specs.Clock.{stamp_at}
 use Rattle.pipe_base.specs.Limits.{last_stamp}
-use Rattle.pipe_base.specs.Moment.{has_link, is_up}
-use Rattle.pipe_base.proofs.BarrierLaws.{filter-among}
-use Rattle.pipe_base.specs.Graph.{Graph, all_links, head_of, ins_of, is_half, is_host, link_id}
+use Rattle.pipe_base.specs.Moment.{is_up}
+use Rattle.pipe_base.specs.Graph.{Graph, head_of, is_half, is_host}
 use Rattle.pipe_model.specs.declared.event.Event.{Event}
 use Rattle.pipe_model.specs.declared.event.Event.TheVariants.{Send, Tick, Take, Crash}
 use Rattle.pipe_model.specs.declared.record.Record.{Record}
@@ -169,8 +166,8 @@ overfills graph trace r event items past step is over =
 
 -- a record that changes no node
 pub passed_by : (graph : Graph) (nodes : List Node) (lists left : List (List Packet)) (past : List Record) (r : Record) → Keeps graph nodes lists past
-    → ((n : ℕ) → is_own graph n r ≡ false) → IsStep graph past r → queues.Stand graph left (r ∷ past) → Keeps graph nodes left (r ∷ past)
-passed_by graph nodes lists left past r keeps nobody step moved = record {
+    → ((n : ℕ) → is_own graph n r ≡ false) → IsStep graph past r → IsOfGraph graph r.event → queues.Stand graph left (r ∷ past) → Keeps graph nodes left (r ∷ past)
+passed_by graph nodes lists left past r keeps nobody step known moved = record {
   is_graph = keeps.is_graph;
   joined = keeps.joined;
   few_links = keeps.few_links;
@@ -178,12 +175,13 @@ passed_by graph nodes lists left past r keeps nobody step moved = record {
   nodes_are = λ n d lt. subst (λ (o : List Record). node.Stands graph n o (slice_index_or nodes n d)) (sym (own_same graph n r past (nobody n))) (keeps.nodes_are n d lt);
   queues_are = moved;
   rules = (keeps.rules, step);
+  names = All-cons (λ (s : Record). IsOfGraph graph s.event) r past known keeps.names;
 }
 
 -- a record of a node's own
 pub acted : (graph : Graph) (nodes : List Node) (lists left : List (List Packet)) (past : List Record) (id : ℕ) (before after : Node) (r : Record) → Keeps graph nodes lists past
-    → id < graph.nodes → before ≡ slice_index_or nodes id before → Adds graph id before after lists left r → Keeps graph (set nodes id after) left (r ∷ past)
-acted graph nodes lists left past id before after r keeps lt read adds =
+    → id < graph.nodes → before ≡ slice_index_or nodes id before → Adds graph id before after lists left r → IsOfGraph graph r.event → Keeps graph (set nodes id after) left (r ∷ past)
+acted graph nodes lists left past id before after r keeps lt read adds known =
     let stands : node.Stands graph id (own graph id past) before = subst (λ (k : Node). node.Stands graph id (own graph id past) k) (sym read) (keeps.nodes_are id before lt) in
     record {
       is_graph = keeps.is_graph;
@@ -201,6 +199,7 @@ acted graph nodes lists left past id before after r keeps lt read adds =
           ];
       queues_are = adds.queues_stand past keeps.queues_are;
       rules = (keeps.rules, adds.rules past keeps.rules stands keeps.queues_are);
+      names = All-cons (λ (s : Record). IsOfGraph graph s.event) r past known keeps.names;
     }
 
 -- a refused record
@@ -222,6 +221,7 @@ refused graph nodes lists left past id before after keeps lt read restores =
           ];
       queues_are = restores.queues_stand past keeps.queues_are;
       rules = keeps.rules;
+      names = keeps.names;
     }
 
 pub moved_queues : (graph : Graph) (nodes : List Node) (lists left : List (List Packet)) (past : List Record) → Keeps graph nodes lists past → queues.Stand graph left past → Keeps graph nodes left past
@@ -233,6 +233,7 @@ moved_queues graph nodes lists left past keeps moved = record {
   nodes_are = keeps.nodes_are;
   queues_are = moved;
   rules = keeps.rules;
+  names = keeps.names;
 }
 
 -- the history of a longer trace

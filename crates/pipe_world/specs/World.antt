@@ -14,6 +14,7 @@ use Rattle.pipe_model.specs.declared.record.Took.TheVariants.{Nothing}
 use Rattle.pipe_model.specs.Acting.{is_own, own}
 use Rattle.pipe_model.specs.Event.{IsOfGraph}
 use Rattle.pipe_model.specs.Items.{IsOver}
+use Rattle.pipe_model.specs.NeverLate.{AreOfGraph}
 use Rattle.pipe_model.specs.Outcome.{took_at}
 use Rattle.pipe_model.specs.Run.{IsHistory, IsStep}
 use Rattle.pipe_world.specs.declared.node.Node.{Node}
@@ -25,7 +26,7 @@ pub record GraphAndTrace : Type 0 where
   pub graph : Graph
   pub trace : List Record
 
--- what is kept is what the rules say after the history, and the history is one
+-- what is kept is what the rules say after the history, and the history is one, of events of the network
 pub record Keeps (graph : Graph) (nodes : List Node) (lists : List (List Packet)) (past : List Record) : Type 0 where
   pub is_graph : IsGraph graph
   pub joined : JoinsAllHosts graph
@@ -34,6 +35,7 @@ pub record Keeps (graph : Graph) (nodes : List Node) (lists : List (List Packet)
   pub nodes_are : (n : ℕ) (d : Node) → n < graph.nodes → node.Stands graph n (own graph n past) (slice_index_or nodes n d)
   pub queues_are : queues.Stand graph lists past
   pub rules : IsHistory graph past
+  pub names : AreOfGraph graph past
 
 abbrev pub Stands : Graph → List Node → List (List Packet) → List Record → Type 0
 Stands graph nodes lists trace = Keeps graph nodes lists (reverse trace)

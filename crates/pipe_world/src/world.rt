@@ -5,6 +5,7 @@ ghost use Rattle.pipe_base.specs.Graph.{Graph, IsGraph, is_half};
 ghost use Rattle.pipe_base.specs.Limits.{most_items};
 ghost use Rattle.pipe_base.specs.Reach.{JoinsAllHosts};
 ghost use Rattle.pipe_model.specs.Items.{Overfills, items_of};
+ghost use Rattle.pipe_model.specs.NeverLate.{AreLinksOrdered, IsNeverLate};
 ghost use Rattle.pipe_model.specs.Order.{AreLogsOrdered, AreStampsCausal, IsGenuine};
 ghost use Rattle.pipe_model.specs.Run.{IsHistory};
 ghost use Rattle.pipe_model.specs.Waiting.{waiting_on};
@@ -84,7 +85,8 @@ impl World {
         )
     }
 
-    /// All that happened, the oldest record first. It is a history by the rules, and the order of the channel holds of it.
+    /// All that happened, the oldest record first. It is a history by the rules, and the order of the channel holds of it;
+    /// where each take took the oldest packet of its link, no best-effort message is late.
     pub fn trace(&self) -> &Trace
         ensures trace { result.now ≡ self.now.trace }
         ensures within { items_of self.now.trace ≤ most_items }
@@ -93,6 +95,7 @@ impl World {
         ensures ordered { AreLogsOrdered self.now.graph (reverse self.now.trace) }
         ensures causal { AreStampsCausal self.now.graph (reverse self.now.trace) }
         ensures genuine { IsGenuine self.now.graph (reverse self.now.trace) }
+        ensures never_late { AreLinksOrdered (reverse self.now.trace) → IsNeverLate (reverse self.now.trace) }
     {
         self.history.trace()
     }
@@ -105,6 +108,7 @@ impl World {
         ensures ordered { AreLogsOrdered self.graph (reverse result) }
         ensures causal { AreStampsCausal self.graph (reverse result) }
         ensures genuine { IsGenuine self.graph (reverse result) }
+        ensures never_late { AreLinksOrdered (reverse result) → IsNeverLate (reverse result) }
     {
         self.history.into_trace()
     }

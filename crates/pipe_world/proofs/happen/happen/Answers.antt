@@ -5,6 +5,7 @@ use Rattle.std.proofs.lemmas.Result.{IfErr-weaker}
 use Rattle.pipe_base.specs.declared.step.Outcome.TheVariants.{Ok, NoItem}
 use Rattle.pipe_model.specs.declared.record.Record.{Record}
 use Rattle.pipe_model.specs.Acting.{own}
+use Rattle.pipe_model.specs.Event.{IsOfGraph}
 use Rattle.pipe_model.specs.Items.{Overfills}
 use Rattle.pipe_world.specs.declared.fault.StepFault.{StepFault}
 use Rattle.pipe_world.specs.declared.fault.StepFault.TheVariants.{Full}
@@ -29,7 +30,7 @@ returns-then-not-is_there-clause-stands c =
     c.pass_by.ensures.ok c.pass_by.ensures.err
     (λ done. appended graph c.args.nodes.now c.pass_by.new.queues c.args.history.now c.pass_by.new.history r done.appended
     (passed_by graph c.args.nodes.now c.args.queues.now c.pass_by.new.queues past r c.requires.stands (idle_owned graph c.args.event)
-    (missing_step graph past c.args.queues.now c.args.event c.requires.stands.queues_are c.requires.event c.requires.built absent)
+    (missing_step graph past c.args.queues.now c.args.event c.requires.stands.queues_are c.requires.event c.requires.built absent) c.requires.event
     (done.queues_stand graph past c.requires.stands.queues_are)))
     (λ refusal. unchanged graph c.args.nodes.now c.pass_by.new.queues c.args.history.now c.pass_by.new.history refusal.same
     (moved_queues graph c.args.nodes.now c.args.queues.now c.pass_by.new.queues past c.requires.stands (refusal.queues_stand graph past c.requires.stands.queues_are)))
@@ -49,7 +50,8 @@ returns-in-Some-clause-stands c =
     (Stands graph (set c.args.nodes.now id c.act.new.node) c.act.new.queues c.act.new.history)
     c.act.ensures.ok c.act.ensures.err
     (λ done. appended graph (set c.args.nodes.now id c.act.new.node) c.act.new.queues c.args.history.now c.act.new.history done.0 done.1
-    (acted graph c.args.nodes.now c.args.queues.now c.act.new.queues past id before c.act.new.node done.0 c.requires.stands known read done.3))
+    (acted graph c.args.nodes.now c.args.queues.now c.act.new.queues past id before c.act.new.node done.0 c.requires.stands known read done.3
+    (subst (IsOfGraph graph) (sym done.2) c.requires.event)))
     (λ refusal. unchanged graph (set c.args.nodes.now id c.act.new.node) c.act.new.queues c.args.history.now c.act.new.history refusal.0
     (refused graph c.args.nodes.now c.args.queues.now c.act.new.queues past id before c.act.new.node c.requires.stands known read refusal.1))
 
@@ -66,7 +68,7 @@ returns-in-None-clause-stands c =
     c.pass_by-in-None.ensures.ok c.pass_by-in-None.ensures.err
     (λ done. appended graph c.args.nodes.now c.pass_by-in-None.new.queues c.args.history.now c.pass_by-in-None.new.history r done.appended
     (passed_by graph c.args.nodes.now c.args.queues.now c.pass_by-in-None.new.queues past r c.requires.stands (nobody_owned graph c.args.event c.in-None.ensures.acts)
-    (loss_step graph past c.args.queues.now c.args.event c.requires.stands.queues_are c.requires.event c.requires.built c.in-None.ensures.acts there)
+    (loss_step graph past c.args.queues.now c.args.event c.requires.stands.queues_are c.requires.event c.requires.built c.in-None.ensures.acts there) c.requires.event
     (done.queues_stand graph past c.requires.stands.queues_are)))
     (λ refusal. unchanged graph c.args.nodes.now c.pass_by-in-None.new.queues c.args.history.now c.pass_by-in-None.new.history refusal.same
     (moved_queues graph c.args.nodes.now c.args.queues.now c.pass_by-in-None.new.queues past c.requires.stands (refusal.queues_stand graph past c.requires.stands.queues_are)))

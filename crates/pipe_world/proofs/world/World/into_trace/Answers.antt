@@ -1,7 +1,9 @@
 use Rattle.std.proofs.Common.{List, reverse, subst, sym}
 use Rattle.pipe_model.specs.declared.record.Record.{Record}
+use Rattle.pipe_model.specs.NeverLate.{AreLinksOrdered, IsNeverLate}
 use Rattle.pipe_model.specs.Order.{AreLogsOrdered, AreStampsCausal, IsGenuine}
 use Rattle.pipe_model_net.proofs.Genuine.{run_genuine}
+use Rattle.pipe_model_net.proofs.NeverLate.{never_late}
 use Rattle.pipe_world.specs.World.{GraphAndTrace}
 use Rattle.pipe_world.proofs.RunLaws.{run_ordered, run_causal}
 use Rattle.pipe_world.proofs.world.World.into_trace.Goals as goal
@@ -23,3 +25,8 @@ returns-clause-genuine c =
     subst (λ (v : GraphAndTrace). IsGenuine v.graph (reverse c.into_trace.result)) c.self.view_is
     (subst (λ (t : List Record). IsGenuine c.self.inside.topology (reverse t)) (sym c.into_trace.ensures.trace)
     (run_genuine c.self.inside.topology (reverse c.self.inside.history) c.self.invariant.rules))
+
+pub returns-clause-never_late : goal.returns-clause-never_late
+returns-clause-never_late c =
+    subst (λ (t : List Record). AreLinksOrdered (reverse t) → IsNeverLate (reverse t)) (sym c.into_trace.ensures.trace)
+    (never_late c.self.inside.topology (reverse c.self.inside.history) c.self.invariant.rules c.self.invariant.names)

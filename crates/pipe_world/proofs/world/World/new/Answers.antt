@@ -1,7 +1,9 @@
-use Rattle.std.proofs.Common.{◌≡◌, ℕ, List, [], reverse, refl, sym, subst, ap, ◌∙◌, arith}
+use Rattle.std.proofs.Common.{List, reverse, refl, sym, subst, ap, ◌∙◌, arith}
+use Rattle.std.proofs.lemmas.List.Elements.{All-nil}
 use Rattle.pipe_base.specs.Graph.{Graph}
 use Rattle.pipe_base.specs.Reach.{JoinsAllHosts}
 use Rattle.pipe_model.specs.declared.record.Record.{Record}
+use Rattle.pipe_model.specs.Event.{IsOfGraph}
 use Rattle.pipe_world.specs.World.{Keeps}
 use Rattle.pipe_world.proofs.world.World.new.Goals as goal
 
@@ -21,4 +23,5 @@ invariant_of-result c =
         lists_are = λ link lt. c.in_ok-queues.ensures.empty link;
       };
       rules = tt;
+      names = All-nil (λ (r : Record). IsOfGraph graph r.event);
     })

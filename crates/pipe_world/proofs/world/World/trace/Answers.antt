@@ -1,7 +1,9 @@
 use Rattle.std.proofs.Common.{reverse, subst}
 use Rattle.pipe_base.specs.Reach.{JoinsAllHosts}
+use Rattle.pipe_model.specs.NeverLate.{AreLinksOrdered, IsNeverLate}
 use Rattle.pipe_model.specs.Order.{AreLogsOrdered, AreStampsCausal, IsGenuine}
 use Rattle.pipe_model_net.proofs.Genuine.{run_genuine}
+use Rattle.pipe_model_net.proofs.NeverLate.{never_late}
 use Rattle.pipe_world.specs.World.{GraphAndTrace}
 use Rattle.pipe_world.proofs.RunLaws.{run_ordered, run_causal}
 use Rattle.pipe_world.proofs.world.World.trace.Goals as goal
@@ -20,6 +22,11 @@ pub returns-clause-genuine : goal.returns-clause-genuine
 returns-clause-genuine c =
     subst (λ (v : GraphAndTrace). IsGenuine v.graph (reverse v.trace)) c.self.view_is
     (run_genuine c.self.inside.topology (reverse c.self.inside.history) c.self.invariant.rules)
+
+pub returns-clause-never_late : goal.returns-clause-never_late
+returns-clause-never_late c =
+    subst (λ (v : GraphAndTrace). AreLinksOrdered (reverse v.trace) → IsNeverLate (reverse v.trace)) c.self.view_is
+    (never_late c.self.inside.topology (reverse c.self.inside.history) c.self.invariant.rules c.self.invariant.names)
 
 pub returns-clause-joined : goal.returns-clause-joined
 returns-clause-joined c = subst (λ (v : GraphAndTrace). JoinsAllHosts v.graph) c.self.view_is c.self.invariant.joined
