@@ -10,7 +10,11 @@ pub mod Moment
 pub mod Outside
 pub mod Packets
 pub mod Path
+pub mod Promise
 pub mod Reach
+pub mod Resends
+pub mod Scattering
+pub mod Settled
 pub mod ShortestRoute
 pub mod Silence
 pub mod Step

@@ -13,6 +13,10 @@ most_patience = 281474976710654
 abbrev pub most_receivers : ℕ
 most_receivers = 16
 
+-- the reliable scatterings of one sender that are not settled
+abbrev pub most_unsettled : ℕ
+most_unsettled = 16
+
 -- the bytes of one body
 abbrev pub most_body : ℕ
 most_body = 1024

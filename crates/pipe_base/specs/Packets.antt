@@ -3,7 +3,7 @@ use Rattle.std.specs.Prelude.{ℕ, List, []}
 use Rattle.pipe_base.specs.declared.name.HostId.{HostId}
 use Rattle.pipe_base.specs.declared.name.Ts.{Ts}
 use Rattle.pipe_base.specs.declared.packet.Packet.{Packet}
-use Rattle.pipe_base.specs.declared.packet.PacketKind.TheVariants.{Beacon, Plain}
+use Rattle.pipe_base.specs.declared.packet.PacketKind.TheVariants.{Beacon, Plain, Prepare, Recall}
 
 -- the two barriers of a packet
 pub record Fields : Type 0 where
@@ -18,6 +18,14 @@ ts_of n = record { 0 = n }
 abbrev pub message_to : HostId → Ts → Fields → (HostId × List ℕ) → Packet
 message_to src ts f dest =
     record { kind = Plain; src = src; dst = dest.0; ts = ts; be = ts_of f.be; commit = ts_of f.commit; body = dest.1 }
+
+-- a reliable message to one receiver of a scattering
+abbrev pub prepare_to : HostId → Ts → Fields → (HostId × List ℕ) → Packet
+prepare_to src ts f dest = record (message_to src ts f dest) { kind = Prepare }
+
+-- the taking back of the reliable message to one receiver of a scattering
+abbrev pub recall_to : HostId → Ts → Fields → (HostId × List ℕ) → Packet
+recall_to src ts f dest = record (message_to src ts f dest) { kind = Recall; body = [] }
 
 -- a packet that goes on, with the fields of the half that passes it on
 abbrev pub forwarded : Fields → Packet → Packet

@@ -21,7 +21,9 @@ pub use control::{Addressed, Announced, AnnouncedList, Control, LinkList, To};
 pub use fault::{Failed, NoMemory, Size};
 pub use list::List;
 pub use memory::{MemorySink, MemorySource};
-pub use message::{Dest, DestList, Entry, Key, LoggedList, Message, Service};
+pub use message::{
+    Dest, DestList, Entry, Key, LoggedList, Message, RECEIVER_LIMIT, Service, UNSETTLED_LIMIT,
+};
 pub use name::{HostId, LAST_BARRIER, LAST_STAMP, Link, LinkId, NodeId, Ts};
 pub use outside::{Sink, Source};
 pub use packet::{Packet, PacketKind, Plane};

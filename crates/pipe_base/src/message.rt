@@ -16,6 +16,12 @@ pub struct Key {
     pub src: HostId,
 }
 
+/// The most receivers of a scattering.
+pub const RECEIVER_LIMIT: usize = 16;
+
+/// The most reliable scatterings of one sender that are not settled.
+pub const UNSETTLED_LIMIT: usize = 16;
+
 /// A message of a service to one receiver.
 #[derive(Clone, Debug, Drop)]
 pub struct Message {

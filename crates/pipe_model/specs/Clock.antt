@@ -2,9 +2,11 @@
 use Rattle.std.specs.Prelude.{ℕ, List, [], ◌∷◌}
 use Rattle.pipe_base.specs.Clock.{next_after}
 use Rattle.pipe_base.specs.Graph.{Graph}
+use Rattle.pipe_base.specs.Promise.{promise_of}
 use Rattle.pipe_model.specs.declared.event.Event.{Event}
 use Rattle.pipe_model.specs.declared.event.Event.TheVariants.{Tick}
 use Rattle.pipe_model.specs.declared.record.Record.{Record}
+use Rattle.pipe_model.specs.Sender.{sender_calls}
 
 -- the reading of a tick
 abbrev pub tick_reading : Event → ℕ
@@ -16,6 +18,6 @@ abbrev pub next : List Record → ℕ
 next [] = 0
 next (r ∷ own) = next_after (next own) (tick_reading r.event) r.step.stamped r.step.logged
 
--- What a host promises: no reliable scattering below it is undecided. There is no reliable scattering yet.
+-- What a host promises: the least timestamp of its reliable scatterings that are not settled, or its next timestamp.
 abbrev pub promise : Graph → ℕ → List Record → ℕ
-promise graph node own = next own
+promise graph node own = promise_of (next own) (sender_calls graph node own)

@@ -14,4 +14,5 @@ pub mod Order
 pub mod Outcome
 pub mod OwnOutcome
 pub mod Run
+pub mod Sender
 pub mod Waiting
