@@ -13,7 +13,7 @@ or_right false b is = is
 -- an acknowledgement that counts keeps counting
 pub acked_stays : (c : SenderCall) (calls : List SenderCall) (ts host : ℕ) → is_acked calls ts host ≡ true → is_acked (c ∷ calls) ts host ≡ true
 acked_stays (Began s) calls ts host is = is
-acked_stays (Acked t h) calls ts host is = or_right (((t == ts) && (h == host)) && is_begun calls ts) (is_acked calls ts host) is
+acked_stays (Acked t h) calls ts host is = or_right (((ts == t) && (host == h)) && is_begun calls ts) (is_acked calls ts host) is
 
 more_here : (before now rest left : Bool) → (before ≡ true → now ≡ true) → (rest ≡ true → left ≡ true) → (before && rest) ≡ true → (now && left) ≡ true
 more_here true now rest left here there is = let first : now ≡ true = here refl in rw first (there is)

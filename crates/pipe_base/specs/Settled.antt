@@ -7,7 +7,7 @@ use Rattle.pipe_base.specs.Scattering.{Scattering, SenderCall, Began, Acked, beg
 abbrev pub is_acked : List SenderCall → ℕ → ℕ → Bool
 is_acked [] ts host = false
 is_acked (Began s ∷ past) ts host = is_acked past ts host
-is_acked (Acked t h ∷ past) ts host = (((t == ts) && (h == host)) && is_begun past ts) || is_acked past ts host
+is_acked (Acked t h ∷ past) ts host = (((ts == t) && (host == h)) && is_begun past ts) || is_acked past ts host
 
 -- The scattering is taken back: a receiver failed that had not acknowledged it. Nothing is taken back yet.
 abbrev pub is_recalled : List SenderCall → Scattering → Bool

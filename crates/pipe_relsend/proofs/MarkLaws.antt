@@ -1,0 +1,95 @@
+-- Marks against the receivers that they belong to.
+use Rattle.std.proofs.Common.{◌≡◌, ◌≢◌, ℕ, ◌+◌, zero, suc, replicate, set, eq-eqb, below_more, get_or-set_same, get_or-set_other, ◌<◌, ◌≤◌, ◌||◌, ◌==◌, not, Bool, true, false, List, [], ◌∷◌, length, get_or, take, drop, map, filter, refl, sym, ap, ap₂, arith, ◌∙◌, if◌then◌else◌}
+use Rattle.std.proofs.lemmas.Bool.Decides.{nat_tests}
+use Rattle.std.proofs.lemmas.List.{get_or_default}
+use Rattle.pipe_base.specs.declared.name.HostId.{HostId}
+use Rattle.pipe_relsend.specs.Preparation.{marked, open_dests}
+
+-- marks that are set one by one
+pub marks_are : (host : ℕ) (ds : List (HostId × List ℕ)) (new old : List Bool) → length ds ≤ length new → length ds ≤ length old
+    → ((k : ℕ) (d : HostId × List ℕ) → k < length ds → get_or new k false ≡ (get_or old k false || ((get_or ds k d).0.0 == host)))
+    → take (length ds) new ≡ marked host ds (take (length ds) old)
+marks_are host [] new old more much reads = refl
+marks_are host (d ∷ ds) [] old more much reads = absurd (omega arith)
+marks_are host (d ∷ ds) (x ∷ new) [] more much reads = absurd (omega arith)
+marks_are host (d ∷ ds) (x ∷ new) (y ∷ old) more much reads =
+    let first : x ≡ (y || (d.0.0 == host)) = reads 0 d (omega arith) in
+    ap₂ {A = Bool} {B = List Bool} {C = List Bool} (λ b bs. b ∷ bs) first (marks_are host ds new old (omega arith) (omega arith) (λ k e lt. reads (suc k) e (omega arith)))
+
+-- marks that are a function of the receivers
+pub marked_by : (host : ℕ) (f : HostId × List ℕ → Bool) (ds : List (HostId × List ℕ)) → marked host ds (map f ds) ≡ map (λ d. f d || (d.0.0 == host)) ds
+marked_by host f [] = refl
+marked_by host f (d ∷ ds) = ap (λ (bs : List Bool). (f d || (d.0.0 == host)) ∷ bs) (marked_by host f ds)
+
+open_more : (b : Bool) (d : HostId × List ℕ) (xs ys : List (HostId × List ℕ)) → xs ≡ ys → (if b then xs else d ∷ xs) ≡ (if not b then d ∷ ys else ys)
+open_more true d xs ys is = is
+open_more false d xs ys is = ap (λ (ds : List (HostId × List ℕ)). d ∷ ds) is
+
+pub open_by : (f : HostId × List ℕ → Bool) (ds : List (HostId × List ℕ)) → open_dests ds (map f ds) ≡ filter (λ d. not (f d)) ds
+open_by f [] = refl
+open_by f (d ∷ ds) = open_more (f d) d (open_dests ds (map f ds)) (filter (λ e. not (f e)) ds) (open_by f ds)
+
+-- a scattering begins without marks
+pub no_marks_yet : (n : ℕ) (ds : List (HostId × List ℕ)) → length ds ≤ n → take (length ds) (replicate n false) ≡ map (λ d. false) ds
+no_marks_yet n [] le = refl
+no_marks_yet zero (d ∷ ds) le = absurd (omega arith)
+no_marks_yet (suc n) (d ∷ ds) le = ap (λ (bs : List Bool). false ∷ bs) (no_marks_yet n ds (omega arith))
+
+if_same : (b : Bool) (d : HostId × List ℕ) (xs ys : List (HostId × List ℕ)) → xs ≡ ys → (if b then xs else d ∷ xs) ≡ (if b then ys else d ∷ ys)
+if_same true d xs ys is = is
+if_same false d xs ys is = ap (λ (ds : List (HostId × List ℕ)). d ∷ ds) is
+
+-- marks past the receivers are not looked at
+pub open_short : (ds : List (HostId × List ℕ)) (ms : List Bool) → open_dests ds (take (length ds) ms) ≡ open_dests ds ms
+open_short [] ms = refl
+open_short (d ∷ ds) [] = refl
+open_short (d ∷ ds) (m ∷ ms) = if_same m d (open_dests ds (take (length ds) ms)) (open_dests ds ms) (open_short ds ms)
+
+-- one receiver after the other
+pub open_skip : (ds : List (HostId × List ℕ)) (ms : List Bool) (k : ℕ) → k < length ds → k < length ms → get_or ms k false ≡ true
+    → open_dests (drop k ds) (drop k ms) ≡ open_dests (drop (suc k) ds) (drop (suc k) ms)
+open_skip [] ms k within marked is = absurd (omega arith)
+open_skip (d ∷ ds) [] k within marked is = absurd (omega arith)
+open_skip (d ∷ ds) (m ∷ ms) zero within marked is = rw is refl
+open_skip (d ∷ ds) (m ∷ ms) (suc k) within marked is = open_skip ds ms k (omega arith) (omega arith) is
+
+pub open_here : (ds : List (HostId × List ℕ)) (ms : List Bool) (k : ℕ) (d : HostId × List ℕ) → k < length ds → k < length ms → get_or ms k false ≡ false → d ≡ get_or ds k d
+    → open_dests (drop k ds) (drop k ms) ≡ d ∷ open_dests (drop (suc k) ds) (drop (suc k) ms)
+open_here [] ms k d within marked is here = absurd (omega arith)
+open_here (e ∷ ds) [] k d within marked is here = absurd (omega arith)
+open_here (e ∷ ds) (m ∷ ms) zero d within marked is here = rw (is, here) refl
+open_here (e ∷ ds) (m ∷ ms) (suc k) d within marked is here = open_here ds ms k d (omega arith) (omega arith) is here
+
+or_true : (b : Bool) → (b || true) ≡ true
+or_true true = refl
+or_true false = refl
+
+or_false : (b : Bool) → (b || false) ≡ b
+or_false true = refl
+or_false false = refl
+
+-- one mark more
+abbrev AreMarked : ℕ → List (HostId × List ℕ) → List Bool → List Bool → ℕ → Type 0
+AreMarked host ds start marks k = (d : HostId × List ℕ) → get_or marks k false ≡ (get_or start k false || ((get_or ds k d).0.0 == host))
+
+pub mark_here : (host : ℕ) (ds : List (HostId × List ℕ)) (start marks : List Bool) (at : ℕ) (e : HostId × List ℕ) → at < length ds → at < length marks
+    → ((k : ℕ) (d : HostId × List ℕ) → k < at → get_or marks k false ≡ (get_or start k false || ((get_or ds k d).0.0 == host)))
+    → e ≡ get_or ds at e → e.0.0 ≡ host → (k : ℕ) (d : HostId × List ℕ) → k < at + 1 → get_or (set marks at true) k false ≡ (get_or start k false || ((get_or ds k d).0.0 == host))
+mark_here host ds start marks at e within room done is same k d below =
+    below_more (AreMarked host ds start (set marks at true)) at
+    (λ j lt c. let ne : j ≢ at = omega arith in rw get_or-set_other (done j c lt))
+    (λ c.
+    let this : get_or ds at c ≡ e = get_or_default ds at c e within ∙ sym is in
+    let test : ((get_or ds at c).0.0 == host) ≡ true = eq-eqb (get_or ds at c).0.0 host (ap {B = ℕ} (λ (x : HostId × List ℕ). x.0.0) this ∙ same) in
+    get_or-set_same marks at true false room ∙ sym (rw test (or_true (get_or start at false)))) k below d
+
+pub mark_none : (host : ℕ) (ds : List (HostId × List ℕ)) (start marks : List Bool) (at : ℕ) (e : HostId × List ℕ) → at < length ds
+    → ((k : ℕ) (d : HostId × List ℕ) → k < at → get_or marks k false ≡ (get_or start k false || ((get_or ds k d).0.0 == host)))
+    → get_or marks at false ≡ get_or start at false → e ≡ get_or ds at e → e.0.0 ≢ host
+    → (k : ℕ) (d : HostId × List ℕ) → k < at + 1 → get_or marks k false ≡ (get_or start k false || ((get_or ds k d).0.0 == host))
+mark_none host ds start marks at e within done kept is other k d below =
+    below_more (AreMarked host ds start marks) at (λ j lt c. done j c lt)
+    (λ c.
+    let this : (get_or ds at c).0.0 ≡ e.0.0 = ap {B = ℕ} (λ (x : HostId × List ℕ). x.0.0) (get_or_default ds at c e within ∙ sym is) in
+    let test : ((get_or ds at c).0.0 == host) ≡ false = grind (arith, nat_tests, this, other) in
+    kept ∙ sym (rw test (or_false (get_or start at false)))) k below d

@@ -1,0 +1,7 @@
+use Rattle.std.proofs.Common.{List, Bool, ap}
+use Rattle.pipe_relsend.specs.Preparation.{Preparation}
+use Rattle.pipe_relsend.proofs.MarkLaws.{no_marks_yet}
+use Rattle.pipe_relsend.proofs.scattering.Preparing.start.Goals as goal
+
+pub returns : goal.returns
+returns c = ap {B = Preparation} (λ (bs : List Bool). record { ts = c.args.ts; dests = c.args.dests; marks = bs }) (no_marks_yet 16 c.args.dests c.requires.few)
