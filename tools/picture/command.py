@@ -34,9 +34,9 @@ def main(words: list[str]) -> int:
     path = Path(words[0])
     try:
         data = path.read_bytes()
+        status, text = trace_of(data)
     except OSError as fault:
         return fail(NO_INPUT, f"picture: {fault}")
-    status, text = trace_of(data)
     if status != 0:
         return status
     try:

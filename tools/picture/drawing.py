@@ -6,9 +6,8 @@ from dataclasses import dataclass
 from html import escape
 from math import hypot
 
-from .marks import Mark, about
 from .run import Arrow, End
-from .scene import BESIDE, DOT, LETTER, LINE, Column, Scene, Side
+from .scene import BESIDE, DOT, LETTER, LINE, Column, Row, Scene, Side, on_the_way
 from .trace import Packet, Record, Scattering, read_packet
 
 PART = 2000  # records in a part
@@ -58,7 +57,7 @@ class Drawing:
         self.scene = scene
         self.run = scene.run
         self.hosts = set(self.run.topology.hosts)
-        self.lost = {arrow.record: arrow for arrow in self.run.arrows if arrow.end is End.LOST}
+        self.lost = self.run.lost
         self.crashed = self.crashes()
         self.arrows = self.arrows_by_part()
 
@@ -157,85 +156,65 @@ class Drawing:
             step = max(-STUB, min(STUB, 0.5 * (head - tail)))
             return start, (tail + step, start[1] + FALLS[arrow.put.line % len(FALLS)])
         down = self.scene.rows[arrow.record].dot
-        if arrow.end in (End.LOST, End.CUT):
-            return start, (0.4 * tail + 0.6 * head, down)
-        return start, shortened(start, (head, down), GAPS[arrow.end])
+        if arrow.end in GAPS:
+            return start, shortened(start, (head, down), GAPS[arrow.end])
+        return start, (on_the_way(self.scene.columns, arrow.put.tail, arrow.put.head).x, down)
 
     def record(self, record: Record) -> str:
-        """The dot of the node that acts, its marks and its figures."""
+        """The dot of the node that acts, the marks and the figures."""
         node = self.run.nodes[record.number]
         row = self.scene.rows[record.number]
-        column = self.scene.columns.get(node)
-        if column is None:
-            content = self.marks_without_node(record)
-        else:
-            dot = element("circle", kind=f"dot {self.dot_kind(record)}", cx=column.x, cy=row.dot, r=4)
-            content = dot + self.marks(column, row.dot, row.marks) + self.figures(column, row.dot, row.figures)
+        dot = self.dot(record, row) if node in self.scene.columns else ""
         hosts, scatterings = self.belongings(record, node)
         return element(
             "g",
-            content,
+            dot + marks(row) + figures(row),
             kind="record",
             id=f"record-{record.number}",
-            data_x=column.x if column else None,
+            data_x=row.place.x,
             data_hosts=" ".join(sorted(hosts)) or None,
             data_scatterings=" ".join(sorted(scatterings)) or None,
         )
 
     @staticmethod
-    def dot_kind(record: Record) -> str:
-        return record.event[0] if record.outcome == ["ok"] else "idle"
-
-    @staticmethod
-    def marks(column: Column, y: float, marks: list[Mark]) -> str:
-        x = column.x + column.side.value * BESIDE
-        anchor = "end" if column.side is Side.LEFT else "start"
-        return "".join(
-            text(f"mark {mark.kind}", x, y + 4 + LINE * place, mark.shown, text_anchor=anchor) for place, mark in enumerate(marks)
-        )
-
-    @staticmethod
-    def figures(column: Column, y: float, figures: list[Mark]) -> str:
-        side = column.side.other
-        drawn = []
-        for place, figure in enumerate(figures):
-            width = len(figure.shown) * LETTER + 8
-            middle = column.x + side.value * (BESIDE + width / 2)
-            top = y - 8 + LINE * place
-            box = element("rect", kind="box", x=middle - width / 2, y=top, width=width, height=15, rx=4)
-            drawn.append(box + text(f"figure {figure.kind}", middle, top + 12, figure.shown))
-        return "".join(drawn)
-
-    def marks_without_node(self, record: Record) -> str:
-        """A loss is told where its arrow ends, a cut between the ends of the link."""
-        row = self.scene.rows[record.number]
-        lost = self.lost.get(record.number)
-        if lost is not None:
-            _, (x, y) = self.way(lost)
-            return text("mark lost", x + BESIDE, y + 4, f"lost {about(lost.put.item)}", text_anchor="start")
-        x = self.middle_of_cut(record)
-        return "".join(
-            text(f"mark {mark.kind}", x, row.dot + 4 + LINE * place, mark.shown, text_anchor="middle")
-            for place, mark in enumerate(row.marks)
-        )
-
-    def middle_of_cut(self, record: Record) -> float:
-        if record.event[0] == "cut":
-            link = self.run.topology.links[int(record.event[1])]
-            return (self.scene.columns[link.tail].x + self.scene.columns[link.head].x) / 2
-        return self.scene.width / 2
+    def dot(record: Record, row: Row) -> str:
+        kind = record.event[0] if record.outcome == ["ok"] else "idle"
+        return element("circle", kind=f"dot {kind}", cx=row.place.x, cy=row.dot, r=4)
 
     def belongings(self, record: Record, node: str | None) -> tuple[set[str], set[str]]:
         """The hosts and the scatterings that the record is about."""
         packets = [read_packet(line.words[1:]) for line in record.all("took") + record.all("put")]
         lost = self.lost.get(record.number)
-        if lost is not None and isinstance(lost.put.item, Packet):
-            packets.append(lost.put.item)
+        if lost is not None and isinstance(lost.item, Packet):
+            packets.append(lost.item)
         logged = [Scattering(int(line.words[1]), line.words[2]) for line in record.all("logged")]
         stamped = [Scattering(int(line.words[0]), node) for line in record.all("stamp") if node]
         scatterings = logged + stamped + [packet.scattering for packet in packets if packet.scattering]
         hosts = {scattering.sender for scattering in scatterings}.union({node} & self.hosts, *(packet.hosts for packet in packets))
         return hosts, {scattering.token for scattering in scatterings}
+
+
+def beside(row: Row, side: Side) -> tuple[float, str]:
+    """Where text begins on this side of the place of a row, and which of its ends that is."""
+    return row.place.x + side.value * BESIDE, "end" if side is Side.LEFT else "start"
+
+
+def marks(row: Row) -> str:
+    x, anchor = beside(row, row.place.side)
+    lines = ((row.dot + 4 + LINE * place, mark) for place, mark in enumerate(row.marks))
+    return "".join(text(f"mark {mark.kind}", x, y, mark.shown, text_anchor=anchor) for y, mark in lines)
+
+
+def figures(row: Row) -> str:
+    side = row.place.side.other
+    drawn = []
+    for place, figure in enumerate(row.figures):
+        width = len(figure.shown) * LETTER + 8
+        middle = row.place.x + side.value * (BESIDE + width / 2)
+        top = row.dot - 8 + LINE * place
+        box = element("rect", kind="box", x=middle - width / 2, y=top, width=width, height=15, rx=4)
+        drawn.append(box + text(f"figure {figure.kind}", middle, top + 12, figure.shown))
+    return "".join(drawn)
 
 
 def shortened(start: tuple[float, float], stop: tuple[float, float], gap: float) -> tuple[float, float]:

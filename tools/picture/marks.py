@@ -2,7 +2,7 @@
 
 from dataclasses import dataclass
 
-from .run import Run
+from .run import Put, Run
 from .trace import Control, Packet, Record, read_control, read_packet
 
 LONGEST_BODY = 12
@@ -121,9 +121,11 @@ def event_marks(record: Record, run: Run) -> list[Mark]:
     return marks
 
 
-def marks_of(record: Record, run: Run) -> list[Mark]:
+def marks_of(record: Record, run: Run, lost: Put | None) -> list[Mark]:
     """All marks of a record, in the order of its lines."""
     marks = event_marks(record, run)
+    if lost is not None:
+        marks.append(Mark("lost", f"lost {about(lost.item)}"))
     marks += [Mark("told", f"stamp {line.words[0]}") for line in record.all("stamp")]
     marks += taken_marks(record)
     marks += [down_mark(line.words, run) for line in record.all("down")]

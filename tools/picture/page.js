@@ -144,7 +144,7 @@ function lineItem(record, text, line) {
 /** For each scattering of the record a button that makes it stand out. */
 function followers(record) {
   const tokens = byId(`record-${record}`)?.dataset.scatterings?.split(" ") ?? [];
-  return tokens.map((token) => button(`follow ${token.replace(":", " ")}`, () => filter(view.host, token)));
+  return tokens.map((token) => button(`follow ${token.replace(".", " ")}`, () => filter(view.host, token)));
 }
 
 function tellRecord() {
@@ -252,7 +252,10 @@ run.addEventListener("click", (event) => {
   if (row) choose(Number(row.dataset.record));
 });
 byId("controls").addEventListener("submit", (event) => event.preventDefault());
-byId("number").addEventListener("change", (event) => choose(Number(event.target.value)));
+byId("number").addEventListener("change", (event) => {
+  choose(Number(event.target.value));
+  event.target.value = view.record ?? "";
+});
 byId("host").addEventListener("change", (event) => filter(event.target.value, view.scattering));
 byId("scattering").addEventListener("change", (event) => filter(view.host, event.target.value));
 byId("beacons").addEventListener("change", (event) => light(event.target.checked));

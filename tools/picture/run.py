@@ -58,6 +58,11 @@ class Run:
     arrows: list[Arrow]
 
     @property
+    def lost(self) -> dict[int, Put]:
+        """What was lost, by the record that lost it."""
+        return {arrow.record: arrow.put for arrow in self.arrows if arrow.end is End.LOST}
+
+    @property
     def has_controller(self) -> bool:
         return CONTROLLER in self.nodes or any(CONTROLLER in (arrow.put.tail, arrow.put.head) for arrow in self.arrows)
 

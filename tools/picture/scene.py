@@ -3,14 +3,14 @@
 Hosts stand at the outside, the halves of switches between them near the hosts below, the controller at the right end."""
 
 from collections.abc import Iterable
-from dataclasses import dataclass
+from dataclasses import dataclass, replace
 from enum import Enum
-from itertools import accumulate
 from statistics import mean
 
 from .marks import Figures, Mark, marks_of
-from .run import CONTROLLER, Run
-from .topology import Topology
+from .run import CONTROLLER, Put, Run
+from .topology import Switch, Topology
+from .trace import Record
 
 LETTER = 7.3  # the width of a letter beside a dot
 HEADER_LETTER = 8.2
@@ -22,6 +22,7 @@ NARROW = 54
 ROOM = 780  # what all columns together take where they can
 BESIDE = 12  # the space between a dot and its marks
 LEAST_MARGIN = 40
+LOSS = 0.6  # how far along its way something is lost
 
 
 class Side(Enum):
@@ -36,23 +37,43 @@ class Side(Enum):
 
 
 @dataclass(frozen=True)
+class Place:
+    """A point on a row, and the side on which its marks stand."""
+
+    x: float
+    side: Side
+
+    def moved(self, by: float) -> "Place":
+        return Place(self.x + by, self.side)
+
+
+@dataclass(frozen=True)
 class Column:
     node: str
     kind: str  # host, half or controller
-    x: float
-    side: Side
+    place: Place
+
+    @property
+    def x(self) -> float:
+        return self.place.x
 
 
 @dataclass(frozen=True)
 class Row:
     top: float
     height: float
+    place: Place
     marks: list[Mark]
     figures: list[Mark]
 
     @property
     def dot(self) -> float:
         return self.top + DOT
+
+    def texts(self) -> Iterable[tuple[Side, Mark]]:
+        """All that stands beside the place, with its side."""
+        yield from ((self.place.side, mark) for mark in self.marks)
+        yield from ((self.place.side.other, figure) for figure in self.figures)
 
 
 @dataclass(frozen=True)
@@ -61,10 +82,6 @@ class Scene:
     columns: dict[str, Column]
     rows: list[Row]
     width: float
-
-    @property
-    def height(self) -> float:
-        return self.rows[-1].top + self.rows[-1].height if self.rows else 0
 
 
 def hosts_below(topology: Topology) -> dict[str, set[int]]:
@@ -76,60 +93,85 @@ def hosts_below(topology: Topology) -> dict[str, set[int]]:
     return below
 
 
-def order(topology: Topology) -> list[tuple[str, str, Side]]:
-    """The nodes from left to right, with their kinds and sides: the higher a switch, the nearer to the middle."""
+def ordered_switches(topology: Topology) -> list[Switch]:
+    """From left to right: each near its hosts, and the higher the nearer to the middle."""
     middle = (len(topology.hosts) - 1) / 2
     centre = {name: mean(hosts) for name, hosts in hosts_below(topology).items()}
     left = [switch for switch in topology.switches if centre[switch.name] <= middle]
     right = [switch for switch in topology.switches if centre[switch.name] > middle]
     left.sort(key=lambda switch: (switch.level, centre[switch.name]))
     right.sort(key=lambda switch: (-switch.level, centre[switch.name]))
-    half = len(topology.hosts) - len(topology.hosts) // 2
-    hosts = [(host, "host", Side.LEFT if number < half else Side.RIGHT) for number, host in enumerate(topology.hosts)]
-    halves = [(node, "half", Side.RIGHT) for switch in left + right for node in (switch.up, switch.down)]
-    return hosts[:half] + halves + hosts[half:]
+    return left + right
+
+
+def ordered_nodes(run: Run) -> list[tuple[str, str, Side]]:
+    """The nodes from left to right, with their kinds and the sides of their marks."""
+    hosts = run.topology.hosts
+    half = len(hosts) - len(hosts) // 2
+    switches = ordered_switches(run.topology)
+    nodes = [(host, "host", Side.LEFT) for host in hosts[:half]]
+    nodes += [(node, "half", Side.RIGHT) for switch in switches for node in (switch.up, switch.down)]
+    nodes += [(host, "host", Side.RIGHT) for host in hosts[half:]]
+    if run.has_controller:
+        nodes.append((CONTROLLER, "controller", Side.RIGHT))
+    return nodes
+
+
+def columns_of(run: Run) -> dict[str, Column]:
+    """The columns, the first one at 0."""
+    nodes = ordered_nodes(run)
+    longest = max(len(part) for node, _, _ in nodes for part in node.split("."))
+    space = max(NARROW, longest * HEADER_LETTER + 8, min(WIDE, ROOM / max(len(nodes) - 1, 1)))
+    return {node: Column(node, kind, Place(number * space, side)) for number, (node, kind, side) in enumerate(nodes)}
+
+
+def on_the_way(columns: dict[str, Column], tail: str, head: str) -> Place:
+    """Where something ends that is lost between two nodes."""
+    return Place(columns[tail].x + LOSS * (columns[head].x - columns[tail].x), Side.RIGHT)
+
+
+def place_of(record: Record, run: Run, columns: dict[str, Column], lost: Put | None) -> Place:
+    """The node that acts, or where something was lost or cut."""
+    node = run.nodes[record.number]
+    if node in columns:
+        return columns[node].place
+    if lost is not None:
+        return on_the_way(columns, lost.tail, lost.head)
+    if record.event[0] == "cut":
+        link = run.topology.links[int(record.event[1])]
+        return on_the_way(columns, link.tail, link.head)
+    return Place(mean(column.x for column in columns.values()), Side.RIGHT)
+
+
+def rows_of(run: Run, columns: dict[str, Column]) -> list[Row]:
+    rows: list[Row] = []
+    figures, lost, top = Figures(), run.lost, 0.0
+    for record, node in zip(run.records, run.nodes):
+        gone = lost.get(record.number)
+        marks, risen = marks_of(record, run, gone), figures.rise(record, node)
+        height = ROW + LINE * max(len(marks) - 1, len(risen) - 1, 0)
+        rows.append(Row(top, height, place_of(record, run, columns, gone), marks, risen))
+        top += height
+    return rows
 
 
 def reach(mark: Mark) -> float:
-    """How far a mark reaches from its line."""
+    """How far a mark reaches from its place."""
     return BESIDE + len(mark.shown) * LETTER + 8
 
 
-def sides(row: Row, side: Side) -> Iterable[tuple[Side, Mark]]:
-    yield from ((side, mark) for mark in row.marks)
-    yield from ((side.other, figure) for figure in row.figures)
-
-
-def margins(places: dict[str, tuple[float, Side]], nodes: list[str | None], rows: list[Row]) -> tuple[float, float]:
-    """The room that the texts need to the left of the first column and to the right of the last one."""
-    last = max(x for x, _ in places.values())
-    left = right = LEAST_MARGIN
-    for node, row in zip(nodes, rows):
-        x, side = places.get(node, (last / 2, Side.RIGHT))
-        for where, mark in sides(row, side):
-            if where is Side.LEFT:
-                left = max(left, reach(mark) - x)
-            else:
-                right = max(right, x + reach(mark) - last)
-    return left, right
-
-
-def rows_of(run: Run) -> list[Row]:
-    figures = Figures()
-    texts = [(marks_of(record, run), figures.rise(record, node)) for record, node in zip(run.records, run.nodes)]
-    heights = [ROW + LINE * max(len(marks) - 1, len(risen) - 1, 0) for marks, risen in texts]
-    tops = accumulate(heights, initial=0)
-    return [Row(top, height, marks, risen) for top, height, (marks, risen) in zip(tops, heights, texts)]
+def margins(rows: list[Row], last: float) -> tuple[float, float]:
+    """The room that the texts need to the left of 0 and to the right of the last column."""
+    texts = [(row.place.x, side, reach(mark)) for row in rows for side, mark in row.texts()]
+    left = max((reach - x for x, side, reach in texts if side is Side.LEFT), default=0)
+    right = max((x + reach - last for x, side, reach in texts if side is Side.RIGHT), default=0)
+    return max(left, LEAST_MARGIN), max(right, LEAST_MARGIN)
 
 
 def scene_of(run: Run) -> Scene:
-    rows = rows_of(run)
-    nodes = order(run.topology)
-    if run.has_controller:
-        nodes.append((CONTROLLER, "controller", Side.RIGHT))
-    longest = max(len(part) for node, _, _ in nodes for part in node.split("."))
-    space = max(NARROW, longest * HEADER_LETTER + 8, min(WIDE, ROOM / max(len(nodes) - 1, 1)))
-    places = {node: (number * space, side) for number, (node, _, side) in enumerate(nodes)}
-    left, right = margins(places, run.nodes, rows)
-    columns = {node: Column(node, kind, left + places[node][0], side) for node, kind, side in nodes}
-    return Scene(run, columns, rows, left + (len(nodes) - 1) * space + right)
+    columns = columns_of(run)
+    rows = rows_of(run, columns)
+    last = max(column.x for column in columns.values())
+    left, right = margins(rows, last)
+    moved = {node: replace(column, place=column.place.moved(left)) for node, column in columns.items()}
+    return Scene(run, moved, [replace(row, place=row.place.moved(left)) for row in rows], left + last + right)

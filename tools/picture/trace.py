@@ -18,7 +18,7 @@ class Scattering:
     @property
     def token(self) -> str:
         """The same as one word, for attributes of the page."""
-        return f"{self.timestamp}:{self.sender}"
+        return f"{self.timestamp}.{self.sender}"
 
 
 @dataclass(frozen=True)
