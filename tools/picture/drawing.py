@@ -16,7 +16,7 @@ GUTTER = 200
 GUTTER_LETTERS = 20
 STUB = 46  # how far something goes at most that is never taken
 FALLS = (12, 18, 24, 30)  # and how far it falls, one after the other, so that those of one record stand apart
-GAPS = {End.TAKEN: 5, End.IGNORED: 9}  # between a dot and the tip of an arrow
+GAPS = {End.TAKEN: 5, End.IGNORED: 0}  # between a dot and the tip of an arrow
 ACROSS = ("crash", "cut", "down", "decide")
 
 
@@ -178,7 +178,8 @@ class Drawing:
 
     @staticmethod
     def dot(record: Record, row: Row) -> str:
-        kind = record.event[0] if record.outcome == ["ok"] else "idle"
+        outcome = record.outcome[0]
+        kind = {"ok": record.event[0], "ignored": "ignored"}.get(outcome, "idle")
         return element("circle", kind=f"dot {kind}", cx=row.place.x, cy=row.dot, r=4)
 
     def belongings(self, record: Record, node: str | None) -> tuple[set[str], set[str]]:
@@ -220,7 +221,7 @@ def figures(row: Row) -> str:
 def shortened(start: tuple[float, float], stop: tuple[float, float], gap: float) -> tuple[float, float]:
     """A point so far before the stop."""
     across, down = stop[0] - start[0], stop[1] - start[1]
-    rest = 1 - gap / max(hypot(across, down), gap)
+    rest = 1 - gap / max(hypot(across, down), gap, 1)
     return start[0] + rest * across, start[1] + rest * down
 
 
