@@ -1,7 +1,6 @@
 """The drawing of a scene as SVG, part by part, so that a browser never has too much at once."""
 
 from collections import defaultdict
-from collections.abc import Iterable
 from dataclasses import dataclass
 from html import escape
 from math import hypot
@@ -102,8 +101,11 @@ class Drawing:
 
     def name(self, column: Column) -> str:
         upper, _, lower = column.node.partition(".")
-        words = text("switch", column.x, 17, upper) + text("side", column.x, 33, lower) if lower else text("only", column.x, 25, upper)
-        return element("g", element("title", escape(column.node)) + words, kind=f"name {column.kind}", data_node=column.node)
+        if lower:
+            words = text("switch", column.x, 17, upper) + text("side", column.x, 33, lower)
+        else:
+            words = text("only", column.x, 25, upper)
+        return element("g", words, kind=f"name {column.kind}", data_node=column.node)
 
     def row_band(self, record: int, width: float) -> str:
         """What is clicked, and coloured when the record is chosen."""
@@ -191,7 +193,8 @@ class Drawing:
         logged = [Scattering(int(line.words[1]), line.words[2]) for line in record.all("logged")]
         stamped = [Scattering(int(line.words[0]), node) for line in record.all("stamp") if node]
         scatterings = logged + stamped + [packet.scattering for packet in packets if packet.scattering]
-        hosts = {scattering.sender for scattering in scatterings}.union({node} & self.hosts, *(packet.hosts for packet in packets))
+        senders = {scattering.sender for scattering in scatterings}
+        hosts = senders.union({node} & self.hosts, *(packet.hosts for packet in packets))
         return hosts, {scattering.token for scattering in scatterings}
 
 
@@ -223,10 +226,3 @@ def shortened(start: tuple[float, float], stop: tuple[float, float], gap: float)
     across, down = stop[0] - start[0], stop[1] - start[1]
     rest = 1 - gap / max(hypot(across, down), gap, 1)
     return start[0] + rest * across, start[1] + rest * down
-
-
-def scatterings_of(records: Iterable[Record], nodes: Iterable[str | None]) -> list[Scattering]:
-    """All that were stamped, in the order of the run."""
-    return [
-        Scattering(int(line.words[0]), node) for record, node in zip(records, nodes) if node for line in record.all("stamp")
-    ]

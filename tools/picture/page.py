@@ -6,7 +6,7 @@ from html import escape
 from pathlib import Path
 from string import Template
 
-from .drawing import GUTTER, Drawing, Part, element, number, scatterings_of
+from .drawing import GUTTER, Drawing, Part, element, number
 from .run import Arrow, Run
 from .scene import Scene
 
@@ -62,7 +62,6 @@ def page(title: str, scene: Scene) -> str:
     run = scene.run
     drawing = Drawing(scene)
     parts = drawing.parts()
-    scatterings = dict.fromkeys(scatterings_of(run.records, run.nodes))
     counts = Count(len(run.records), "record"), Count(len(run.topology.hosts), "host")
     return Template(asset("page.html")).substitute(
         title=escape(title),
@@ -71,7 +70,7 @@ def page(title: str, scene: Scene) -> str:
         script=asset("page.js"),
         last=max(len(run.records) - 1, 0),
         hosts="".join(option(host, host) for host in run.topology.hosts),
-        scatterings="".join(option(scattering.token, str(scattering)) for scattering in scatterings),
+        scatterings="".join(option(scattering.token, str(scattering)) for scattering in run.scatterings),
         names=drawing.header(),
         gutter_width=GUTTER,
         width=number(scene.width),

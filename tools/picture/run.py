@@ -8,7 +8,7 @@ from dataclasses import dataclass
 from enum import StrEnum
 
 from .topology import Topology
-from .trace import Control, Line, Packet, Record, read_control, read_packet
+from .trace import Control, Line, Packet, Record, Scattering, read_control, read_packet
 
 CONTROLLER = "controller"
 
@@ -56,6 +56,12 @@ class Run:
     records: list[Record]
     nodes: list[str | None]  # per record the node that acts
     arrows: list[Arrow]
+
+    @property
+    def scatterings(self) -> list[Scattering]:
+        """All that were stamped, in the order of the run."""
+        stamps = [(line, node) for record, node in zip(self.records, self.nodes) for line in record.all("stamp") if node]
+        return list(dict.fromkeys(Scattering(int(line.words[0]), node) for line, node in stamps))
 
     @property
     def lost(self) -> dict[int, Put]:

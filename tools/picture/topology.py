@@ -59,8 +59,8 @@ def star(count: int) -> Topology:
 
 def from_plan(text: str) -> Topology:
     plan = tomllib.loads(text)
-    switches = [Switch(name, int(level)) for name, level in (words.split(" ") for words in plan["switches"])]
-    cables = [tuple(words.split(" ")) for words in plan["cables"]]
+    switches = [Switch(name, int(level)) for name, level in map(str.split, plan["switches"])]
+    cables = [(one, other) for one, other in map(str.split, plan["cables"])]
     return build(plan["hosts"], switches, cables)
 
 
