@@ -184,17 +184,24 @@ class Drawing:
         kind = {"ok": record.event[0], "ignored": "ignored"}.get(outcome, "idle")
         return element("circle", kind=f"dot {kind}", cx=row.place.x, cy=row.dot, r=4)
 
+    def hosts_at(self, link: str) -> set[str]:
+        """The hosts at the ends of a link."""
+        return set(self.run.topology.ends(int(link))) & self.hosts
+
     def belongings(self, record: Record, node: str | None) -> tuple[set[str], set[str]]:
-        """The hosts and the scatterings that the record is about."""
-        packets = [read_packet(line.words[1:]) for line in record.all("took") + record.all("put")]
+        """The hosts and the scatterings that the record is about: those that its lines name, and the hosts at the ends of
+        the links that they name."""
+        moved = record.all("took") + record.all("put")
         lost = self.lost.get(record.number)
-        if lost is not None and isinstance(lost.item, Packet):
-            packets.append(lost.item)
+        packets = [read_packet(line.words[1:]) for line in moved]
+        packets += [lost.item] if lost is not None and isinstance(lost.item, Packet) else []
+        links = [line.words[0] for line in moved + record.all("down") + record.all("dropped")]
+        stamps = [Scattering(int(line.words[0]), node) for line in record.all("stamp") if node]
         logged = [Scattering(int(line.words[1]), line.words[2]) for line in record.all("logged")]
-        stamped = [Scattering(int(line.words[0]), node) for line in record.all("stamp") if node]
-        scatterings = logged + stamped + [packet.scattering for packet in packets if packet.scattering]
-        senders = {scattering.sender for scattering in scatterings}
-        hosts = senders.union({node} & self.hosts, *(packet.hosts for packet in packets))
+        scatterings = stamps + logged + [packet.scattering for packet in packets if packet.scattering]
+        hosts = {node} & self.hosts | {scattering.sender for scattering in scatterings}
+        hosts |= {line.words[0] for line in record.all("noted")}
+        hosts = hosts.union(*(packet.hosts for packet in packets), *map(self.hosts_at, links))
         return hosts, {scattering.token for scattering in scatterings}
 
 

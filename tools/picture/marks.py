@@ -99,11 +99,8 @@ def down_mark(words: list[str], run: Run) -> Mark:
 
 
 def ends(run: Run, link: str) -> str:
-    """The nodes at the ends of a link; nothing where it is none."""
-    if int(link) >= len(run.topology.links):
-        return ""
-    joined = run.topology.links[int(link)]
-    return f"{joined.tail}→{joined.head}"
+    """The nodes at the ends of a link."""
+    return "→".join(run.topology.ends(int(link)))
 
 
 def event_marks(record: Record, run: Run) -> list[Mark]:

@@ -35,6 +35,10 @@ class Topology:
     cables: list[tuple[str, str]]  # the lower end first
     links: list[Link]
 
+    def ends(self, link: int) -> tuple[str, ...]:
+        """The two nodes that a link joins; none where there is no such link."""
+        return (self.links[link].tail, self.links[link].head) if link < len(self.links) else ()
+
     def nodes(self) -> list[str]:
         return self.hosts + [half for switch in self.switches for half in (switch.up, switch.down)]
 
