@@ -1,5 +1,5 @@
 -- What a replay shows of an input.
-use Rattle.std.specs.Prelude.{◌≡◌, ℕ, ◌≤◌, List, ◌++◌, reverse, Ok, Err}
+use Rattle.std.specs.Prelude.{◌≡◌, ℕ, ◌≤◌, All, List, ◌++◌, reverse, Ok, Err}
 use Rattle.pipe_base.specs.declared.fault.Size.{Size}
 use Rattle.pipe_base.specs.declared.fault.Size.TheVariants.{Bytes, Events, Items}
 use Rattle.pipe_base.specs.Graph.{Graph}
@@ -7,6 +7,7 @@ use Rattle.pipe_base.specs.Limits.{most_items}
 use Rattle.pipe_model.specs.declared.event.Event.{Event}
 use Rattle.pipe_model.specs.declared.record.Record.{Record}
 use Rattle.pipe_model.specs.Items.{items_of}
+use Rattle.pipe_model.specs.NeverLate.{IsNeverLate, IsOfOldest}
 use Rattle.pipe_model.specs.Order.{AreLogsOrdered, AreStampsCausal, IsGenuine}
 use Rattle.pipe_model.specs.Run.{IsRun}
 use Rattle.pipe_text_input.specs.Content.{Content}
@@ -21,13 +22,15 @@ use Rattle.pipe_cli.specs.Input.{says}
 use Rattle.pipe_cli.specs.Running.{IsStopped}
 
 -- The trace is the run of these events, it puts no more than it may, and the order of the channel holds of it: logs rise,
--- stamps are above what was logged, and what is logged was sent.
+-- stamps are above what was logged, what is logged was sent, and where each take names the oldest packet of its link no
+-- best-effort message is late.
 pub record IsOrderedRun (graph : Graph) (events : List Event) (trace : List Record) : Type 0 where
   pub run : IsRun graph events trace
   pub within : items_of trace ≤ most_items
   pub ordered : AreLogsOrdered graph (reverse trace)
   pub causal : AreStampsCausal graph (reverse trace)
   pub genuine : IsGenuine graph (reverse trace)
+  pub never_late : All IsOfOldest events → IsNeverLate (reverse trace)
 
 -- the text of a trace by the form: that of its logs, with `--trace` that of the trace before it
 abbrev pub replay_text : Form → List (List ℕ) → Graph → List Record → List ℕ

@@ -39,13 +39,13 @@ pub fn fields_are_promised()
     ensures { (graph : Graph) (past : List Record) → IsHistory graph past → (link : ℕ) → AreFieldsPromised graph link past }
 {}
 
-/// In every run in which each take names the oldest packet of its link, no best-effort message is late. Packets may be
-/// lost anywhere, and copies may stay.
+/// In every run of events of the network in which each take names the oldest packet of its link, no best-effort message is
+/// late. Packets may be lost anywhere, copies may stay, and silent links may go down.
 pub fn ordered_links_are_never_late()
     ensures { (graph : Graph) (past : List Record) → IsHistory graph past → AreOfGraph graph past → AreLinksOrdered past → IsNeverLate past }
 {}
 
-/// The same by the events of a run.
+/// The same by the list of events of a run.
 pub fn ordered_events_are_never_late()
     ensures { (graph : Graph) (events : List Event) (trace : List Record) → IsRun graph events trace → All (IsOfGraph graph) events → All IsOfOldest events
         → IsNeverLate (reverse trace) }

@@ -146,7 +146,7 @@ const NO_LOG: &str = "log h0 best 0\nlog h0 reliable 0\n";
 
 // An input and the text of its run, each in parts, and the records of the trace.
 static TRACES: [([&str; 2], [&str; 4], usize); 5] = [
-    // A beacon overtakes the message, which is late.
+    // A beacon at place 1 overtakes the message, which is late.
     (
         [TWO_BEGIN, "take 3 1\ntake 3 0\n"],
         [
@@ -158,7 +158,7 @@ static TRACES: [([&str; 2], [&str; 4], usize); 5] = [
         ],
         12,
     ),
-    // A copy of the message is a repeat, and it is logged once.
+    // At place 0 alone nothing is late: a copy of the message is a repeat, and it is logged once.
     (
         [TWO_BEGIN, "take 3 0 keep\ntake 3 0\ntake 3 0\n"],
         [
