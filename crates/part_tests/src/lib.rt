@@ -19,6 +19,8 @@ mod model;
 #[cfg(test)]
 mod registers;
 #[cfg(test)]
+mod relsend;
+#[cfg(test)]
 mod reorder;
 #[cfg(test)]
 mod route;

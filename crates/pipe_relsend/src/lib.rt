@@ -8,6 +8,3 @@ mod sender;
 
 pub use scattering::{AckStep, Prepared, Preparing};
 pub use sender::{Sender, Window};
-
-#[cfg(test)]
-mod tests;
