@@ -1,10 +1,10 @@
 -- What is settled stays settled, and the promise is below each scattering that is not settled.
-use Rattle.std.proofs.Common.{◌≡◌, ℕ, ◌<◌, ◌≤◌, ◌&&◌, ◌||◌, ◌==◌, not, min, Bool, true, false, if◌then◌else◌, List, [], ◌∷◌, ◌++◌, filter, refl, arith, eq-eqb}
-use Rattle.std.specs.List.{All, list_any, list_all}
+use Rattle.std.proofs.Common.{◌≡◌, ℕ, ◌<◌, ◌≤◌, ◌&&◌, ◌||◌, ◌==◌, not, Bool, true, false, if◌then◌else◌, List, [], ◌∷◌, ◌++◌, filter, refl, arith}
+use Rattle.std.specs.List.{All, list_all}
 use Rattle.std.proofs.lemmas.List.Elements.{All-nil, All-cons, All-head, All-tail, All-weaker, All-append}
 use Rattle.pipe_base.specs.Promise.{least_from, least_or}
-use Rattle.pipe_base.specs.Scattering.{Scattering, SenderCall, Began, Acked, AreRising, begun, is_begun}
-use Rattle.pipe_base.specs.Settled.{is_acked, is_prepared, is_settled, unsettled}
+use Rattle.pipe_base.specs.Scattering.{Scattering, SenderCall, Began, Acked, AreRising, is_begun}
+use Rattle.pipe_base.specs.Settled.{is_acked, is_settled}
 
 or_right : (a b : Bool) → b ≡ true → (a || b) ≡ true
 or_right true b is = refl
@@ -90,3 +90,12 @@ first_is_least s ss rising =
     let above : s.ts.0 ≤ least_from s.ts.0 ss =
     least_from_above s.ts.0 s.ts.0 ss (omega arith) (All-weaker (λ (t : Scattering). s.ts.0 < t.ts.0) (λ (t : Scattering). s.ts.0 ≤ t.ts.0) le ss rising) in
     omega (arith, above, least_below s.ts.0 ss)
+
+-- scatterings rise with one above them
+pub rising_more : (ss : List Scattering) (s : Scattering) → AreRising ss → All (λ t. t.ts.0 < s.ts.0) ss → AreRising (ss ++ s ∷ [])
+rising_more [] s rising below = (All-nil (λ (t : Scattering). s.ts.0 < t.ts.0), tt)
+rising_more (x ∷ ss) s rising below = (
+  All-append (λ (t : Scattering). x.ts.0 < t.ts.0) ss (s ∷ []) rising.0
+      (All-cons (λ (t : Scattering). x.ts.0 < t.ts.0) s [] (All-head (λ (t : Scattering). t.ts.0 < s.ts.0) x ss below) (All-nil (λ (t : Scattering). x.ts.0 < t.ts.0))),
+  rising_more ss s rising.1 (All-tail (λ (t : Scattering). t.ts.0 < s.ts.0) x ss below),
+)

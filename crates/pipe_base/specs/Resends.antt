@@ -1,5 +1,5 @@
 -- What a sender puts again at a tick, for the receivers that have not answered.
-use Rattle.std.specs.Prelude.{ℕ, not, if◌then◌else◌, List, map, filter, flat_map}
+use Rattle.std.specs.Prelude.{not, if◌then◌else◌, List, map, filter, flat_map}
 use Rattle.pipe_base.specs.declared.name.HostId.{HostId}
 use Rattle.pipe_base.specs.declared.packet.Packet.{Packet}
 use Rattle.pipe_base.specs.Packets.{Fields, prepare_to, recall_to}

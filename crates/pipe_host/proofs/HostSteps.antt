@@ -1,5 +1,5 @@
 -- That the steps of a host are what it owes.
-use Rattle.std.proofs.Common.{◌≡◌, ℕ, ◌+◌, ◌<◌, ◌≤◌, ◌&&◌, nat_le, nat_lt, not, max, if◌then◌else◌, Bool, true, false, List, [], ◌∷◌, ◌++◌, map, filter, Option, None, Some, refl, sym, subst, ap, ◌∙◌, arith, append-nil, zero-add}
+use Rattle.std.proofs.Common.{◌≡◌, ℕ, ◌+◌, ◌<◌, ◌≤◌, ◌&&◌, nat_le, nat_lt, if◌then◌else◌, Bool, true, false, List, [], ◌∷◌, ◌++◌, map, filter, Option, None, Some, refl, sym, subst, ap, ◌∙◌, arith, append-nil, zero-add}
 use Rattle.std.proofs.lemmas.Bool.{le-leb, lt-leb}
 use Rattle.std.proofs.lemmas.Bool.Decides.{nat_tests}
 use Rattle.pipe_base.specs.declared.message.Entry.{Entry}
@@ -20,8 +20,9 @@ use Rattle.pipe_base.specs.Clock.{next_after, stamp_at}
 use Rattle.pipe_base.specs.Graph.{Graph, ins_of, is_half, is_host, outs_of}
 use Rattle.pipe_base.specs.Limits.{last_stamp}
 use Rattle.pipe_base.specs.Messages.{Messages, below_barrier, from_barrier, logged_of}
-use Rattle.pipe_base.specs.Moment.{Moment, Received, is_up, with_received, with_downed}
+use Rattle.pipe_base.specs.Moment.{Received, is_up, with_received, with_downed}
 use Rattle.pipe_base.specs.Packets.{Fields, beacon, message_to}
+use Rattle.pipe_base.specs.Scattering.{begun}
 use Rattle.pipe_base.specs.ShortestRoute.{not_dropped, route}
 use Rattle.pipe_base.specs.Silence.{silent_marks}
 use Rattle.pipe_base.specs.Step.{quiet_step}
@@ -29,11 +30,11 @@ use Rattle.pipe_base.specs.Ways.{lost, routed, with_beacons, with_ways}
 use Rattle.pipe_base.proofs.MessageLaws.{from_later, none_between}
 use Rattle.pipe_barrier.specs.declared.registers.Barriers.{Barriers}
 use Rattle.pipe_barrier.specs.Registers.{AreBarriers}
-use Rattle.pipe_model.specs.declared.event.Event.TheVariants.{Send, Take, Tick}
+use Rattle.pipe_model.specs.declared.event.Event.TheVariants.{Send}
 use Rattle.pipe_model.specs.declared.record.Record.{Record}
 use Rattle.pipe_model.specs.declared.record.Took.{Took}
 use Rattle.pipe_model.specs.declared.record.Took.TheVariants.{Nothing, Link}
-use Rattle.pipe_model.specs.Clock.{next}
+use Rattle.pipe_model.specs.Clock.{next, promise}
 use Rattle.pipe_model.specs.Duties.{fields, host_be, owed_by_take}
 use Rattle.pipe_model.specs.Fate.{fate, fate_for, held, with_held}
 use Rattle.pipe_model.specs.Got.{gets_of, got, message_of}
@@ -41,10 +42,12 @@ use Rattle.pipe_model.specs.Logged.{logged}
 use Rattle.pipe_model.specs.Moments.{barrier_at, known_drops, moments_of, quiet_calls, received, received_of}
 use Rattle.pipe_model.specs.OwnOutcome.{send_outcome, where_ok}
 use Rattle.pipe_model.specs.Run.{IsNodeStep}
+use Rattle.pipe_model.specs.Sender.{sender_calls}
 use Rattle.pipe_model.proofs.Steps.{no_drop, received_packet, taken_ignored, taken_received}
 use Rattle.pipe_reorder.specs.Buffer.{Buffer, left_by}
 use Rattle.pipe_host.specs.Host.{IsFresh, buffer_at, message_in, taken, ticked}
 use Rattle.pipe_host.proofs.HeldLaws.{fate_from, fresh, held_from, with_packet}
+use Rattle.pipe_host.proofs.NoScattering.{promise_next}
 
 -- a record in which nothing is received
 got_none : (graph : Graph) (node : ℕ) (own : List Record) (r : Record) → received own r ≡ None → got BestEffort graph node own r ≡ None
@@ -89,9 +92,11 @@ host_fields : (t : Bool) (g f : Fields) → t ≡ true → (if t then f else g) 
 host_fields true g f is = refl
 host_fields false g f is = cc
 
-fields_of_host : (graph : Graph) (node : ℕ) (own : List Record) (r : Record) → is_host graph node ≡ true
+fields_of_host : (graph : Graph) (node : ℕ) (own : List Record) (r : Record) → is_host graph node ≡ true → begun (sender_calls graph node (r ∷ own)) ≡ []
     → fields graph node own r ≡ record { be = host_be r.step.stamped (next (r ∷ own)); commit = next (r ∷ own) }
-fields_of_host graph node own r host = host_fields (is_host graph node) _ (record { be = host_be r.step.stamped (next (r ∷ own)); commit = next (r ∷ own) }) host
+fields_of_host graph node own r host none =
+    host_fields (is_host graph node) _ (record { be = host_be r.step.stamped (next (r ∷ own)); commit = promise graph node (r ∷ own) }) host
+    ∙ ap {B = Fields} (λ (n : ℕ). record { be = host_be r.step.stamped (next (r ∷ own)); commit = n }) (promise_next graph node (r ∷ own) none)
 
 ok_where_up : (b : Bool) → b ≡ true → Ok ≡ (if b then Ok else Ignored)
 ok_where_up true is = refl
@@ -225,18 +230,18 @@ receives graph node own link p place keep f b ms step host up are fate_is held_i
     })
 
 -- a tick
-pub ticks : (graph : Graph) (node : NodeId) (own : List Record) (now next_ts : Ts) (marks : List (LinkId × Ts)) (b : Barriers) (log : List (Service × Entry)) (step : Step) → is_host graph node.0 ≡ true
+pub ticks : (graph : Graph) (node : NodeId) (own : List Record) (now next_ts : Ts) (marks : List (LinkId × Ts)) (b : Barriers) (log : List (Service × Entry)) (step : Step) → is_host graph node.0 ≡ true → begun (sender_calls graph node.0 own) ≡ []
     → known_drops own ≡ [] → marks ≡ silent_marks graph.patience (ins_of graph node.0) (moments_of own) (quiet_calls own) now.0
     → AreBarriers (ins_of graph node.0) (with_downed marks (moments_of own)) b
     → log ≡ logged_of BestEffort (below_barrier b.be.0 (from_barrier (barrier_at plane.BestEffort graph node.0 own) (held BestEffort graph node.0 own)))
     → next_ts.0 ≡ next_after (next own) now.0 None log
     → step ≡ with_beacons (outs_of graph node.0) (record { be = next_ts.0; commit = next_ts.0 }) (record (quiet_step Ok) { downed = marks; logged = log })
     → IsNodeStep graph node.0 own (ticked node now step)
-ticks graph node own now next_ts marks b log step host drops marks_are are log_is next_is step_is =
+ticks graph node own now next_ts marks b log step host none drops marks_are are log_is next_is step_is =
     let f : Fields = record { be = next_ts.0; commit = next_ts.0 } in
     let s : Step = with_beacons (outs_of graph node.0) f (record (quiet_step Ok) { downed = marks; logged = log }) in
     let r : Record = ticked node now s in
-    let fields_is : fields graph node.0 own r ≡ f = fields_of_host graph node.0 own r host ∙ ap {B = Fields} (λ (n : ℕ). record { be = n; commit = n }) (sym next_is) in
+    let fields_is : fields graph node.0 own r ≡ f = fields_of_host graph node.0 own r host none ∙ ap {B = Fields} (λ (n : ℕ). record { be = n; commit = n }) (sym next_is) in
     let drops_now : known_drops (r ∷ own) ≡ [] = ap (λ (ls : List LinkId). ls ++ []) drops in
     subst (λ (x : Step). IsNodeStep graph node.0 own (ticked node now x)) (sym step_is)
     (record {
@@ -262,15 +267,15 @@ refused : (now n : ℕ) → last_stamp < stamp_at now n → ClockEnd (record { 0
 refused now n past = let test : nat_le (stamp_at now n) last_stamp ≡ false = lt-leb (stamp_at now n) last_stamp past in rw test refl
 
 -- a send past the end of the clock
-pub refuses : (graph : Graph) (host : HostId) (service : Service) (own : List Record) (now : Ts) (dests : List (HostId × List ℕ)) (end : Ts) (step : Step)
+pub refuses : (graph : Graph) (host : HostId) (own : List Record) (now : Ts) (dests : List (HostId × List ℕ)) (end : Ts) (step : Step)
     → end.0 ≡ next own → last_stamp < stamp_at now.0 end.0 → step ≡ quiet_step (ClockEnd end)
-    → IsNodeStep graph host.0 own (record { event = Send host service now dests; took = Nothing; step = step })
-refuses graph host service own now dests end step end_is past step_is =
+    → IsNodeStep graph host.0 own (record { event = Send host BestEffort now dests; took = Nothing; step = step })
+refuses graph host own now dests end step end_is past step_is =
     let s : Step = quiet_step (ClockEnd end) in
-    let r : Record = record { event = Send host service now dests; took = Nothing; step = s } in
+    let r : Record = record { event = Send host BestEffort now dests; took = Nothing; step = s } in
     let outcome : ClockEnd end ≡ send_outcome now.0 (next own) =
     ap {B = Outcome} (λ (n : ℕ). ClockEnd (record { 0 = n })) end_is ∙ refused now.0 (next own) (omega (arith, past, end_is)) in
-    subst (λ (x : Step). IsNodeStep graph host.0 own (record { event = Send host service now dests; took = Nothing; step = x })) (sym step_is)
+    subst (λ (x : Step). IsNodeStep graph host.0 own (record { event = Send host BestEffort now dests; took = Nothing; step = x })) (sym step_is)
     (record {
       outcome_is = outcome;
       downed_is = refl;
@@ -285,19 +290,19 @@ refuses graph host service own now dests end step end_is past step_is =
     })
 
 -- a send that is stamped
-pub sends : (graph : Graph) (host : HostId) (service : Service) (own : List Record) (now stamp commit : Ts) (dests : List (HostId × List ℕ)) (step : Step)
-    → is_host graph host.0 ≡ true → known_drops own ≡ [] → stamp.0 ≡ stamp_at now.0 (next own) → stamp.0 ≤ last_stamp → commit.0 ≡ stamp.0 + 1
+pub sends : (graph : Graph) (host : HostId) (own : List Record) (now stamp commit : Ts) (dests : List (HostId × List ℕ)) (step : Step)
+    → is_host graph host.0 ≡ true → begun (sender_calls graph host.0 own) ≡ [] → known_drops own ≡ [] → stamp.0 ≡ stamp_at now.0 (next own) → stamp.0 ≤ last_stamp → commit.0 ≡ stamp.0 + 1
     → step ≡ with_ways (route graph [] host.0) (map (message_to host stamp (record { be = stamp.0; commit = commit.0 })) dests) (record (quiet_step Ok) { stamped = Some stamp })
-    → IsNodeStep graph host.0 own (record { event = Send host service now dests; took = Nothing; step = step })
-sends graph host service own now stamp commit dests step is_a_host drops stamp_is within commit_is step_is =
+    → IsNodeStep graph host.0 own (record { event = Send host BestEffort now dests; took = Nothing; step = step })
+sends graph host own now stamp commit dests step is_a_host none drops stamp_is within commit_is step_is =
     let f : Fields = record { be = stamp.0; commit = commit.0 } in
     let s : Step = with_ways (route graph [] host.0) (map (message_to host stamp f) dests) (record (quiet_step Ok) { stamped = Some stamp }) in
-    let r : Record = record { event = Send host service now dests; took = Nothing; step = s } in
+    let r : Record = record { event = Send host BestEffort now dests; took = Nothing; step = s } in
     let outcome : Ok ≡ send_outcome now.0 (next own) = accepted now.0 (next own) (omega (arith, stamp_is, within)) in
     let next_is : next (r ∷ own) ≡ commit.0 = omega (arith, stamp_is, commit_is) in
-    let fields_is : fields graph host.0 own r ≡ f = fields_of_host graph host.0 own r is_a_host ∙ ap {B = Fields} (λ (n : ℕ). record { be = stamp.0; commit = n }) next_is in
+    let fields_is : fields graph host.0 own r ≡ f = fields_of_host graph host.0 own r is_a_host none ∙ ap {B = Fields} (λ (n : ℕ). record { be = stamp.0; commit = n }) next_is in
     let drops_now : known_drops (r ∷ own) ≡ [] = ap (λ (ls : List LinkId). ls ++ []) drops in
-    subst (λ (x : Step). IsNodeStep graph host.0 own (record { event = Send host service now dests; took = Nothing; step = x })) (sym step_is)
+    subst (λ (x : Step). IsNodeStep graph host.0 own (record { event = Send host BestEffort now dests; took = Nothing; step = x })) (sym step_is)
     (record {
       outcome_is = outcome;
       downed_is = refl;

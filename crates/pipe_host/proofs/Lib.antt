@@ -1,3 +1,4 @@
 pub mod Bounds
 pub mod HeldLaws
 pub mod HostSteps
+pub mod NoScattering

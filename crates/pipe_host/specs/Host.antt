@@ -1,5 +1,5 @@
 -- What a host keeps, and what it stands for.
-use Rattle.std.specs.Prelude.{◌≡◌, ℕ, Bool, true, false, List, ◌∷◌, Option, Some}
+use Rattle.std.specs.Prelude.{◌≡◌, ℕ, Bool, true, false, List, [], ◌∷◌, Option, Some}
 use Rattle.pipe_base.specs.declared.message.Service.TheVariants.{BestEffort}
 use Rattle.pipe_base.specs.declared.name.LinkId.{LinkId}
 use Rattle.pipe_base.specs.declared.name.NodeId.{NodeId}
@@ -13,6 +13,7 @@ use Rattle.pipe_base.specs.declared.step.Outcome.TheVariants.{Ok}
 use Rattle.pipe_base.specs.Graph.{Graph, ins_of, is_host}
 use Rattle.pipe_base.specs.Messages.{Messages, from_barrier, has_key}
 use Rattle.pipe_base.specs.Moment.{Received}
+use Rattle.pipe_base.specs.Scattering.{SenderCall, begun}
 use Rattle.pipe_base.specs.Step.{quiet_step}
 use Rattle.pipe_barrier.specs.declared.registers.Barriers.{Barriers}
 use Rattle.pipe_barrier.specs.Registers.{AreBarriers}
@@ -25,6 +26,7 @@ use Rattle.pipe_model.specs.Fate.{held}
 use Rattle.pipe_model.specs.Got.{gets_of, key_of, message_of}
 use Rattle.pipe_model.specs.Moments.{barrier_at, moments_of}
 use Rattle.pipe_model.specs.Run.{IsNodeStep}
+use Rattle.pipe_model.specs.Sender.{sender_calls}
 use Rattle.pipe_reorder.specs.Buffer.{Buffer, passed_by}
 use Rattle.pipe_host.specs.declared.host.Host.{Host}
 
@@ -32,19 +34,21 @@ use Rattle.pipe_host.specs.declared.host.Host.{Host}
 abbrev pub buffer_at : ℕ → Messages → Buffer
 buffer_at barrier messages = record { service = BestEffort; barrier = barrier; messages = from_barrier barrier messages }
 
--- What is kept is what the rules say after the host's own records, where these messages ever had the fate held.
-pub record Holds (graph : Graph) (node : ℕ) (own : List Record) (messages : Messages) (k : Host) : Type 0 where
+-- What is kept is what the rules say after the host's own records, where these messages ever had the fate held, and where
+-- these calls of its sender begin no scattering: reliable sends are not built yet.
+pub record Holds (graph : Graph) (node : ℕ) (own : List Record) (messages : Messages) (calls : List SenderCall) (k : Host) : Type 0 where
   pub host : is_host graph node ≡ true
   pub links_are : links.Stands graph node own k.links
   pub next_is : k.clock.next.0 ≡ next own
   pub held_is : k.held ≡ buffer_at (barrier_at plane.BestEffort graph node own) messages
+  pub none_begun : begun calls ≡ []
 
 abbrev pub Stands : Graph → ℕ → List Record → Host → Type 0
-Stands graph node own k = Holds graph node own (held BestEffort graph node own) k
+Stands graph node own k = Holds graph node own (held BestEffort graph node own) (sender_calls graph node own) k
 
--- the same while a record is worked out: the message that it brought is held already
+-- the same while a record is worked out: the message that it brought is held already, and it begins no scattering
 abbrev pub StandsWith : Graph → ℕ → List Record → Record → Host → Type 0
-StandsWith graph node own r k = Holds graph node own (held BestEffort graph node (r ∷ own)) k
+StandsWith graph node own r k = Holds graph node own (held BestEffort graph node (r ∷ own)) (sender_calls graph node (r ∷ own)) k
 
 -- a packet was taken from a link
 abbrev pub taken : LinkId → Packet → ℕ → Bool → Step → Record

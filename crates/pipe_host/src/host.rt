@@ -1,6 +1,5 @@
 // A host.
 ghost use Rattle.std.specs.Prelude.{◌≡◌, ◌∷◌, ◌<◌, ◌^◌, [], ℕ, Bool, List, true, length, IfOk, OnErr, OnOk, Some};
-ghost use Rattle.pipe_base.specs.declared.message.Service.{Service};
 ghost use Rattle.pipe_base.specs.declared.message.Service.TheVariants.{BestEffort};
 ghost use Rattle.pipe_base.specs.Graph.{Graph, ins_of, is_host};
 ghost use Rattle.pipe_base.specs.Moment.{has_link};
@@ -100,8 +99,8 @@ impl Host {
     /// at its end. Nothing changes.
     pub fn work_send(&self, now: Ts, dests: &DestList) -> Result<Step, NoMemory>
         requires few { length dests.now < 2 ^ 32 }
-        ensures { IfOk result (λ step. (graph : Graph) (host : HostId) (service : Service) (own : List ARecord) → Stands graph host.0 own self.now
-            → Works graph host.0 own (record { event = Send host service now dests.now; took = Took.Nothing; step = step }) self.now) }
+        ensures { IfOk result (λ step. (graph : Graph) (host : HostId) (own : List ARecord) → Stands graph host.0 own self.now
+            → Works graph host.0 own (record { event = Send host BestEffort now dests.now; took = Took.Nothing; step = step }) self.now) }
     {
         let mut step = Step::new(self.alloc);
         let mut clock = self.clock;
@@ -214,7 +213,7 @@ impl Host {
         dests: DestList,
         step: &mut Step,
     ) -> Result<(), NoMemory>
-        requires built { service ≡ Service.BestEffort }
+        requires built { service ≡ BestEffort }
         requires few { length dests < 2 ^ 32 }
         ensures ok { OnOk result ((graph : Graph) (host : HostId) (own : List ARecord) → Stands graph host.0 own self.old
             → Does graph host.0 own (record { event = Send host service now dests; took = Took.Nothing; step = step.new }) self.new) }

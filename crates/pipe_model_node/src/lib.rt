@@ -1,18 +1,22 @@
-//! Laws of one node, whatever packets it is handed: its logs rise, it stamps above all that it logged, and each link in use
-//! bounds its barrier. In a run each node's own records are such records, so the laws hold of every run.
+//! Laws of one node, whatever packets it is handed: its logs rise, it stamps above all that it logged, each link in use
+//! bounds its barrier, and its promise never falls. In a run each node's own records are such records, so the laws hold of every run.
 #![tactic(auto)]
 
-ghost use Rattle.std.specs.Prelude.{◌≡◌, ◌≤◌, ℕ, List, true};
+ghost use Rattle.std.specs.Prelude.{◌≡◌, ◌<◌, ◌≤◌, ◌∷◌, ℕ, All, List, true};
 ghost use Rattle.pipe_base.specs.declared.message.Service.{Service};
 ghost use Rattle.pipe_base.specs.declared.packet.Plane.{Plane};
 ghost use Rattle.pipe_base.specs.Barrier.{register};
 ghost use Rattle.pipe_base.specs.Graph.{Graph, ins_of};
 ghost use Rattle.pipe_base.specs.Moment.{has_link, is_used};
+ghost use Rattle.pipe_base.specs.Scattering.{AreRising, Scattering, begun};
+ghost use Rattle.pipe_base.specs.Settled.{is_settled, unsettled};
 ghost use Rattle.pipe_model.specs.declared.record.Record.{Record};
+ghost use Rattle.pipe_model.specs.Clock.{next, promise};
 ghost use Rattle.pipe_model.specs.Logged.{log};
 ghost use Rattle.pipe_model.specs.Moments.{barrier_at, moments_of};
 ghost use Rattle.pipe_model.specs.Order.{IsRising, IsCausal, AreLogsOrdered, AreStampsCausal};
 ghost use Rattle.pipe_model.specs.Run.{IsHistory, IsNodeHistory};
+ghost use Rattle.pipe_model.specs.Sender.{sender_calls};
 
 /// Whatever one node is handed, each of its logs rises strictly by timestamp and sender.
 pub fn logs_of_a_node_rise()
@@ -38,4 +42,25 @@ pub fn stamps_of_a_run_are_causal()
 pub fn use_bounds_barrier()
     ensures { (plane : Plane) (graph : Graph) (node : ℕ) (own : List Record) (link : ℕ) → has_link link (ins_of graph node) ≡ true
         → is_used plane (moments_of own) link ≡ true → barrier_at plane graph node own ≤ register plane (moments_of own) link }
+{}
+
+/// The promise never falls, whatever one node is handed. It is at most the next timestamp, and no scattering below it is
+/// unsettled.
+pub fn promises_rise()
+    ensures rises { (graph : Graph) (node : ℕ) (own : List Record) (r : Record) → IsNodeHistory graph node (r ∷ own)
+        → promise graph node own ≤ promise graph node (r ∷ own) }
+    ensures within { (graph : Graph) (node : ℕ) (own : List Record) → promise graph node own ≤ next own }
+    ensures bounds { (graph : Graph) (node : ℕ) (own : List Record) → All (λ s. promise graph node own ≤ s.ts.0) (unsettled (sender_calls graph node own)) }
+{}
+
+/// What is settled stays settled.
+pub fn settled_scatterings_stay()
+    ensures { (graph : Graph) (node : ℕ) (own : List Record) (r : Record) (s : Scattering) → is_settled (sender_calls graph node own) s ≡ true
+        → is_settled (sender_calls graph node (r ∷ own)) s ≡ true }
+{}
+
+/// A host begins its reliable scatterings in rising order, all below its next timestamp.
+pub fn scatterings_rise()
+    ensures rise { (graph : Graph) (node : ℕ) (own : List Record) → IsNodeHistory graph node own → AreRising (begun (sender_calls graph node own)) }
+    ensures below { (graph : Graph) (node : ℕ) (own : List Record) → All (λ s. s.ts.0 < next own) (begun (sender_calls graph node own)) }
 {}

@@ -5,7 +5,7 @@ use Rattle.std.specs.List.{All, list_any, list_all}
 use Rattle.std.proofs.lemmas.Bool.Decides.{nat_tests}
 use Rattle.std.proofs.lemmas.List.{map-append, length-append, length-map}
 use Rattle.std.proofs.Math.Seq.{take-append_seam}
-use Rattle.std.proofs.lemmas.List.Elements.{All-nil, All-cons, All-head, All-tail, All-weaker, All-append, All-filter, filter-append}
+use Rattle.std.proofs.lemmas.List.Elements.{All-nil, All-cons, All-head, All-tail, All-weaker, All-filter, filter-append}
 use Rattle.std.proofs.lemmas.List.Folds.{list_any-append, list_any_none}
 use Rattle.pipe_base.specs.declared.name.HostId.{HostId}
 use Rattle.pipe_base.specs.declared.packet.Packet.{Packet}
@@ -14,7 +14,7 @@ use Rattle.pipe_base.specs.Promise.{least_or, promise_of}
 use Rattle.pipe_base.specs.Resends.{resends, resends_for}
 use Rattle.pipe_base.specs.Scattering.{Scattering, SenderCall, Began, Acked, AreRising, IsAboveBegun, begun, is_begun}
 use Rattle.pipe_base.specs.Settled.{is_acked, is_settled, unsettled}
-use Rattle.pipe_base.proofs.SenderLaws.{first_is_least, settled_stays}
+use Rattle.pipe_base.proofs.SenderLaws.{first_is_least, rising_more, settled_stays}
 use Rattle.pipe_relsend.specs.Preparation.{Preparation, is_open, prepares, started, with_mark}
 use Rattle.pipe_relsend.specs.Sending.{Stands, after_ack, first_or, kept_of}
 use Rattle.pipe_relsend.proofs.MarkLaws.{marked_by, open_by}
@@ -79,14 +79,6 @@ unsettled_begun calls s above some =
 kept_begun : (calls : List SenderCall) (s : Scattering) → IsAboveBegun s.ts.0 calls → 0 < length s.dests
     → map (kept_of (Began s ∷ calls)) (unsettled (Began s ∷ calls)) ≡ map (kept_of calls) (unsettled calls) ++ kept_of calls s ∷ []
 kept_begun calls s above some = ap (map (kept_of calls)) (unsettled_begun calls s above some) ∙ map-append (kept_of calls) (unsettled calls) (s ∷ [])
-
-rising_more : (ss : List Scattering) (s : Scattering) → AreRising ss → All (λ t. t.ts.0 < s.ts.0) ss → AreRising (ss ++ s ∷ [])
-rising_more [] s rising below = (All-nil (λ (t : Scattering). s.ts.0 < t.ts.0), tt)
-rising_more (x ∷ ss) s rising below = (
-  All-append (λ (t : Scattering). x.ts.0 < t.ts.0) ss (s ∷ []) rising.0
-      (All-cons (λ (t : Scattering). x.ts.0 < t.ts.0) s [] (All-head (λ (t : Scattering). t.ts.0 < s.ts.0) x ss below) (All-nil (λ (t : Scattering). x.ts.0 < t.ts.0))),
-  rising_more ss s rising.1 (All-tail (λ (t : Scattering). t.ts.0 < s.ts.0) x ss below),
-)
 
 pub stands_begun : (calls : List SenderCall) (kept : List Preparation) (s : Scattering) → Stands calls kept → IsAboveBegun s.ts.0 calls → 0 < length s.dests
     → Stands (Began s ∷ calls) (kept ++ started s.ts s.dests ∷ [])

@@ -31,4 +31,5 @@ returns c = λ graph node own stands comes step.
           ∙ ap (λ (n : ℕ). next_after n (tick_reading r.event) r.step.stamped r.step.logged) stands.next_is;
       held_is = c.drop_passed.ensures
           ∙ left_is before now c.barriers.result.be.0 (held BestEffort graph node (r ∷ own)) c.args.self.now.held stands.held_is bars.be_is (barrier_rises plane.BestEffort graph node own r);
+      none_begun = stands.none_begun;
     }

@@ -1,11 +1,12 @@
 use Rattle.std.proofs.Common.{◌≡◌, ℕ, ◌∷◌, ap, sym, subst, ◌∙◌}
+use Rattle.pipe_base.specs.declared.message.Service.{Service}
 use Rattle.pipe_base.specs.declared.name.HostId.{HostId}
 use Rattle.pipe_base.specs.declared.name.NodeId.{NodeId}
 use Rattle.pipe_model.specs.declared.event.Event.TheVariants.{Send}
 use Rattle.pipe_model.specs.declared.record.Record.{Record}
 use Rattle.pipe_model.specs.declared.record.Took.TheVariants.{Nothing}
 use Rattle.pipe_model.specs.Run.{IsNodeStep}
-use Rattle.pipe_host.specs.Host.{Stands}
+use Rattle.pipe_host.specs.Host.{Stands, Works}
 use Rattle.pipe_host.proofs.host.Host.send.Goals as goal
 
 pub returns-clause-ok : goal.returns-clause-ok
@@ -13,7 +14,9 @@ returns-clause-ok c = λ graph host own stands.
     let sent : HostId → Record = λ (h : HostId). record { event = Send h c.args.service c.args.now c.args.dests; took = Nothing; step = c.in_ok-worked.worked } in
     let me : HostId = record { 0 = c.node.result.0 } in
     let me_is : me ≡ host = ap {B = HostId} (λ (n : NodeId). record { 0 = n.0 }) c.node.ensures ∙ ap {B = HostId} (λ (n : ℕ). record { 0 = n }) stands.links_are.node_is in
-    let works = c.in_ok-worked.ensures graph host c.args.service own stands in
+    let works : Works graph host.0 own (sent host) c.args.self.now =
+    subst (λ (s : Service). Works graph host.0 own (record { event = Send host s c.args.now c.args.dests; took = Nothing; step = c.in_ok-worked.worked }) c.args.self.now) (sym c.requires.built)
+    (c.in_ok-worked.ensures graph host own stands) in
     let rules : IsNodeStep graph host.0 own (sent me) = subst (λ (h : HostId). IsNodeStep graph host.0 own (sent h)) (sym me_is) works.rules in
     record {
       rules = works.rules;

@@ -20,5 +20,6 @@ returns-clause-ok c = λ graph node own place keep stands comes.
         };
         next_is = after.next_is;
         held_is = after.held_is;
+        none_begun = after.none_begun;
       };
     }

@@ -1,4 +1,4 @@
-use Rattle.std.proofs.Common.{ℕ, List, ap, sym, ◌∙◌}
+use Rattle.std.proofs.Common.{ℕ, ap, ◌∙◌}
 use Rattle.pipe_base.specs.declared.message.Service.TheVariants.{BestEffort}
 use Rattle.pipe_base.specs.declared.packet.Plane.TheVariants as plane
 use Rattle.pipe_base.specs.Messages.{Messages, from_barrier}
@@ -6,6 +6,7 @@ use Rattle.pipe_model.specs.Fate.{held}
 use Rattle.pipe_model.specs.Moments.{barrier_at}
 use Rattle.pipe_reorder.specs.Buffer.{Buffer}
 use Rattle.pipe_host.proofs.HostSteps.{returns_held}
+use Rattle.pipe_host.proofs.NoScattering.{none_before}
 use Rattle.pipe_host.proofs.host.Host.undo.Goals as goal
 
 pub returns-in-Link : goal.returns-in-Link
@@ -19,4 +20,5 @@ returns-in-Link c = λ graph node own stands step.
       links_are = stands.links_are;
       next_is = stands.next_is;
       held_is = given ∙ ap {B = Buffer} (λ (h : Buffer). record h { messages = ms }) stands.held_is;
+      none_begun = none_before graph node own c.args.«record».now stands.none_begun;
     }

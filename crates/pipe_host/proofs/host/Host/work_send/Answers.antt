@@ -1,4 +1,4 @@
-use Rattle.std.proofs.Common.{◌≡◌, ℕ, ◌+◌, List, [], Some, ap, map, ◌∙◌, arith}
+use Rattle.std.proofs.Common.{◌≡◌, ℕ, ◌+◌, [], Some, ap, map, ◌∙◌, arith}
 use Rattle.pipe_base.specs.declared.name.HostId.{HostId}
 use Rattle.pipe_base.specs.declared.name.NodeId.{NodeId}
 use Rattle.pipe_base.specs.declared.name.Ts.{Ts}
@@ -15,18 +15,18 @@ use Rattle.pipe_host.proofs.HostSteps.{refuses, sends}
 use Rattle.pipe_host.proofs.host.Host.work_send.Goals as goal
 
 pub returns-in-Err : goal.returns-in-Err
-returns-in-Err c = λ graph host service own stands.
+returns-in-Err c = λ graph host own stands.
     let end = c.in-Err.field-0.next in
     let refusal = c.in-Err.ensures.err in
     let end_is : end.0 ≡ c.args.self.now.clock.next.0 = ap {B = ℕ} (λ (t : Ts). t.0) refusal.next_is in
     record {
-      rules = refuses graph host service own c.args.now c.args.dests.now end (record c.new-step.result { outcome = ClockEnd end })
+      rules = refuses graph host own c.args.now c.args.dests.now end (record c.new-step.result { outcome = ClockEnd end })
           (end_is ∙ stands.next_is) (omega (arith, refusal.past, end_is)) (ap {B = Step} (λ (s : Step). record s { outcome = ClockEnd end }) c.new-step.ensures);
       stands = stands;
     }
 
 pub returns : goal.returns
-returns c = λ graph host service own stands.
+returns c = λ graph host own stands.
     let stamp = c.in-Ok.stamp in
     let commit = c.next.result in
     let f : Fields = record { be = stamp.0; commit = commit.0 } in
@@ -37,7 +37,7 @@ returns c = λ graph host service own stands.
     let stamping = c.in-Ok.ensures.ok in
     let commit_is : commit.0 ≡ stamp.0 + 1 = ap {B = ℕ} (λ (t : Ts). t.0) c.next.ensures ∙ stamping.next_is in
     record {
-      rules = sends graph host service own c.args.now stamp commit dests c.send.new.step stands.host stands.links_are.no_drops
+      rules = sends graph host own c.args.now stamp commit dests c.send.new.step stands.host stands.none_begun stands.links_are.no_drops
           (stamping.stamp_is ∙ ap (stamp_at c.args.now.0) stands.next_is) stamping.within commit_is
           (c.in_ok-send.ensures.ok
           ∙ ap (λ (s : Step). with_ways (picked c.routes-routes.result.now.links) (map (message_to src stamp f) dests) (record s { stamped = Some stamp })) c.new-step.ensures

@@ -1,5 +1,4 @@
-use Rattle.std.proofs.Common.{◌≡◌, ℕ, List, ◌∷◌, Bool, true, false, Option, None, Some, ap, sym, subst, ◌∙◌}
-use Rattle.pipe_base.specs.declared.message.Service.{Service}
+use Rattle.std.proofs.Common.{◌≡◌, ℕ, ◌∷◌, true, false, Option, Some, ap, sym, subst, ◌∙◌}
 use Rattle.pipe_base.specs.declared.message.Service.TheVariants.{BestEffort}
 use Rattle.pipe_base.specs.declared.packet.Plane.TheVariants as plane
 use Rattle.pipe_base.specs.declared.step.Fate.{Fate}
@@ -11,11 +10,14 @@ use Rattle.pipe_base.specs.Moment.{has_link, is_up}
 use Rattle.pipe_base.specs.Step.{quiet_step}
 use Rattle.pipe_model.specs.declared.record.Record.{Record}
 use Rattle.pipe_model.specs.Fate.{fate_for, held, with_held}
+use Rattle.pipe_model.specs.Got.{gets}
+use Rattle.pipe_model.specs.Sender.{sender_calls}
 use Rattle.pipe_model.specs.Moments.{barrier_at, moments_of, received}
 use Rattle.pipe_model.proofs.Steps.{taken_ignored, taken_received}
 use Rattle.pipe_reorder.specs.Buffer.{Buffer}
 use Rattle.pipe_host.specs.Host.{Works, buffer_at, message_in, taken}
 use Rattle.pipe_host.proofs.HeldLaws.{fate_from}
+use Rattle.pipe_host.proofs.NoScattering.{begun_answer}
 use Rattle.pipe_host.proofs.HostSteps.{held_with, ignores, receives, still_held, up_from}
 use Rattle.pipe_host.proofs.host.Host.work_take.Goals as goal
 
@@ -36,6 +38,7 @@ returns-then-not-is_up-clause-ok c = λ graph node own place keep stands comes.
         links_are = stands.links_are;
         next_is = stands.next_is;
         held_is = stands.held_is ∙ ap (buffer_at (barrier_at plane.BestEffort graph node own)) (sym same);
+        none_begun = begun_answer (gets graph node own r) (sender_calls graph node own) ∙ stands.none_begun;
       };
     })
 
@@ -71,6 +74,7 @@ returns-in-Ok-clause-ok c = λ graph node own place keep stands comes.
         links_are = stands.links_are;
         next_is = stands.next_is;
         held_is = held_now;
+        none_begun = begun_answer (gets graph node own r) (sender_calls graph node own) ∙ stands.none_begun;
       };
     }
 

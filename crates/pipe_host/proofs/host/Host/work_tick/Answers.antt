@@ -1,4 +1,4 @@
-use Rattle.std.proofs.Common.{◌≡◌, ℕ, List, [], ◌++◌, None, ap, sym, subst, ◌∙◌, arith}
+use Rattle.std.proofs.Common.{◌≡◌, ℕ, List, ◌++◌, None, ap, sym, subst, ◌∙◌, arith}
 use Rattle.pipe_base.specs.declared.message.Entry.{Entry}
 use Rattle.pipe_base.specs.declared.message.Service.{Service}
 use Rattle.pipe_base.specs.declared.message.Service.TheVariants.{BestEffort}
@@ -8,14 +8,14 @@ use Rattle.pipe_base.specs.declared.packet.Plane.TheVariants as plane
 use Rattle.pipe_base.specs.declared.step.Outcome.TheVariants.{Ok}
 use Rattle.pipe_base.specs.declared.step.Step.{Step}
 use Rattle.pipe_base.specs.Clock.{next_after}
-use Rattle.pipe_base.specs.Messages.{AreBelow, Messages, below_barrier, from_barrier, logged_of}
+use Rattle.pipe_base.specs.Messages.{AreBelow, below_barrier, from_barrier, logged_of}
 use Rattle.pipe_base.specs.Packets.{Fields}
 use Rattle.pipe_base.specs.Step.{quiet_step}
 use Rattle.pipe_base.specs.Ways.{with_beacons}
 use Rattle.pipe_model.specs.Clock.{next}
 use Rattle.pipe_model.specs.Fate.{held}
 use Rattle.pipe_model.specs.Moments.{barrier_at}
-use Rattle.pipe_reorder.specs.Buffer.{Buffer, passed_by}
+use Rattle.pipe_reorder.specs.Buffer.{passed_by}
 use Rattle.pipe_host.proofs.Bounds.{logged_below}
 use Rattle.pipe_host.proofs.HostSteps.{ticks}
 use Rattle.pipe_host.proofs.host.Host.work_tick.Goals as goal
@@ -38,7 +38,7 @@ returns c = λ graph node own stands.
     let told : next_ts.0 ≡ c.deliver.new.clock.next.0 = ap {B = ℕ} (λ (t : Ts). t.0) c.next-next.ensures in
     omega (arith, delivered, told, c.tick.ensures, stands.next_is) in
     record {
-      rules = ticks graph node own c.args.now next_ts marks b log c.put_beacons.new.step stands.host stands.links_are.no_drops
+      rules = ticks graph node own c.args.now next_ts marks b log c.put_beacons.new.step stands.host stands.none_begun stands.links_are.no_drops
           (c.in_ok-step.ensures graph node.0 own stands.links_are) (c.in_ok-barriers.ensures graph node.0 own stands.links_are) log_is clock_is
           (c.in_ok-put_beacons.ensures.ok
           ∙ ap (λ (s : Step). with_beacons c.args.self.now.links.outs f (record s { downed = marks; logged = log })) c.new-step.ensures
