@@ -5,7 +5,11 @@ use Rattle.std.specs.Prelude.{Ok as ResultOk, Err as ResultErr}
 use Rattle.std.proofs.lemmas.Bool.{and_from, and_left, both_ways, cases_eq, lt-ltb}
 use Rattle.std.proofs.lemmas.List.Elements.{All-cons}
 use Rattle.std.proofs.lemmas.List.{reverse-append, get_or-set_same, get_or-set_other, length-set}
+use Rattle.pipe_base.specs.declared.message.Service.{Service}
+use Rattle.pipe_base.specs.declared.message.Service.TheVariants.{BestEffort, Reliable}
+use Rattle.pipe_base.specs.declared.name.HostId.{HostId}
 use Rattle.pipe_base.specs.declared.name.NodeId.{NodeId}
+use Rattle.pipe_base.specs.declared.name.Ts.{Ts}
 use Rattle.pipe_base.specs.declared.packet.Packet.{Packet}
 use Rattle.pipe_base.specs.declared.step.Outcome.{Outcome}
 use Rattle.pipe_base.specs.declared.step.Outcome.TheVariants.{Ok, ClockEnd, Crashed, Ignored}
@@ -58,6 +62,11 @@ awake : (graph : Graph) (node : ℕ) (own : List Record) (event : Event) → is_
 awake graph node own (Send host service now dests) = awake_if (nat_le (stamp_at now.0 (next own)) last_stamp) (ClockEnd (record { 0 = next own })) refl
 awake graph node own (Take link place keep) = awake_if (is_up (moments_of own) link.0) Ignored refl
 awake graph node own _ = refl
+
+-- a send that is built is one of best effort
+pub best_of : (host : HostId) (service : Service) (now : Ts) (dests : List (HostId × List ℕ)) → IsBuilt (Send host service now dests) → service ≡ BestEffort
+best_of host BestEffort now dests built = refl
+best_of host Reliable now dests built = absurd built
 
 -- no event that is built is a crash
 not_crash : (node : ℕ) (event : Event) → IsBuilt event → is_crash_of node event ≡ false

@@ -160,6 +160,7 @@ pub struct Work {
 /// Works out the step of the node that acts. Of the node only the message that it holds is changed.
 fn work_at(node: &mut Node, queues: &[Queue], event: &Event) -> Result<Work, NoMemory>
     requires acts { (graph : Graph) × (id : NodeId) × IsAt graph id event.now node.old }
+    requires built { IsBuilt event.now }
     requires links { (graph : Graph) × (length queues.now ≡ length graph.links) × IsOfGraph graph event.now }
     requires there { is_there queues.now event.now ≡ true }
     ensures work { IfOk result (λ work. (graph : Graph) (id : NodeId) (own : List Record) → IsOfGraph graph event.now → ActsAt graph id event.now

@@ -1,6 +1,6 @@
 // What is kept for a node: a host or a half.
 ghost use Rattle.std.specs.Prelude.{◌≡◌, ◌∷◌, ◌<◌, ◌^◌, ℕ, Bool, List, true, length, IfOk, OnErr};
-ghost use Rattle.pipe_base.specs.declared.message.Service.{Service};
+ghost use Rattle.pipe_base.specs.declared.message.Service.TheVariants.{BestEffort};
 ghost use Rattle.pipe_base.specs.declared.name.HostId.{HostId};
 ghost use Rattle.pipe_base.specs.Graph.{Graph, ins_of, is_host};
 ghost use Rattle.pipe_base.specs.Moment.{has_link};
@@ -24,12 +24,12 @@ pub enum Node {
 }
 
 impl Node {
-    /// Works out a send of a host.
+    /// Works out a best-effort send of a host.
     pub fn work_send(&self, now: Ts, dests: &DestList) -> Result<Step, NoMemory>
         requires host { (graph : Graph) × (node : ℕ) × (own : List ARecord) × (is_host graph node ≡ true) × Stands graph node own self.now }
         requires few { length dests.now < 2 ^ 32 }
-        ensures { IfOk result (λ step. (graph : Graph) (host : HostId) (service : Service) (own : List ARecord) → Stands graph host.0 own self.now
-            → Works graph host.0 own (record { event = Send host service now dests.now; took = Took.Nothing; step = step }) self.now) }
+        ensures { IfOk result (λ step. (graph : Graph) (host : HostId) (own : List ARecord) → Stands graph host.0 own self.now
+            → Works graph host.0 own (record { event = Send host BestEffort now dests.now; took = Took.Nothing; step = step }) self.now) }
     {
         match self {
             Node::Host(host) => host.work_send(now, dests),

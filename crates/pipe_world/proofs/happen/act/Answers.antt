@@ -13,6 +13,7 @@ use Rattle.pipe_world.proofs.happen.act.Goals as goal
 pub work_at-requires : goal.work_at-requires
 work_at-requires c = record {
   acts = (c.args.topology.now, c.args.id, record { names = c.requires.event; acts = c.requires.acts; own = c.requires.stands.0; stands = c.requires.stands.1 });
+  built = c.requires.built;
   links = (c.args.topology.now, c.requires.links, c.requires.event);
   there = c.requires.there;
 }
