@@ -1,7 +1,7 @@
 // Registers and silence together.
 
 use pipe_barrier::{Barriers, InLinks};
-use pipe_base::{DownList, LinkId, Ts};
+use pipe_base::{LinkId, Ts};
 use std::test::Fail;
 
 const A: LinkId = LinkId(4);
@@ -13,7 +13,7 @@ const B: LinkId = LinkId(7);
 fn a_silent_link_goes_down(rt: HostRuntime) -> Result<(), Fail> {
     let mut links = InLinks::new(rt.alloc(), [A, B].as_slice(), Ts(10))?;
     links.receive(A, Ts(5), Ts(3));
-    links.tick(Ts(1), &DownList::new(rt.alloc()));
+    links.tick(Ts(1), &[]);
     let with = links.barriers_with(B, Ts(20), Ts(30));
     links.receive(B, Ts(20), Ts(30));
     let held = Barriers {
@@ -37,7 +37,7 @@ fn a_silent_link_goes_down(rt: HostRuntime) -> Result<(), Fail> {
         (1, Some((A, Ts(3))), freed)
     );
     let mut copy = links.try_clone()?;
-    copy.tick(Ts(11), &marks);
+    copy.tick(Ts(11), marks.as_slice());
     assert_eq!(rt;
         (
             copy.barriers(),

@@ -105,12 +105,12 @@ impl InLinks {
     }
 
     /// Takes over a tick at which these links went down. Takes no memory.
-    pub fn tick(&mut self, now: Ts, marks: &DownList)
+    pub fn tick(&mut self, now: Ts, marks: &[(LinkId, Ts)])
         ensures { (ins : List LinkId) (patience : ℕ) (moments : List Moment) (calls : List QuietCall)
             → Stands ins patience self.old moments calls
             → Stands ins patience self.new (with_downed marks.now moments) (Ticked now.0 ∷ calls) }
     {
-        self.registers.down_each(marks.as_slice());
+        self.registers.down_each(marks);
         self.silence.tick(now);
     }
 

@@ -4,6 +4,7 @@ pub mod Calls
 pub mod Clock
 pub mod Fate
 pub mod Graph
+pub mod Kept
 pub mod Limits
 pub mod Messages
 pub mod Moment
@@ -15,6 +16,7 @@ pub mod Reach
 pub mod Resends
 pub mod Scattering
 pub mod Settled
+pub mod Shared
 pub mod ShortestRoute
 pub mod Silence
 pub mod Step

@@ -5,6 +5,7 @@
 mod body;
 mod control;
 mod fault;
+mod kept;
 mod list;
 mod memory;
 mod message;
@@ -19,6 +20,7 @@ mod step;
 pub use body::{BODY_LIMIT, Body, BodyFault};
 pub use control::{Addressed, Announced, AnnouncedList, Control, LinkList, To};
 pub use fault::{Failed, NoMemory, Size};
+pub use kept::KeptStep;
 pub use list::List;
 pub use memory::{MemorySink, MemorySource};
 pub use message::{

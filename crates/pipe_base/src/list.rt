@@ -41,6 +41,14 @@ impl<T> List<T> {
         List { items }
     }
 
+    /// Makes room for so many more items, and no more than that. A first item alone would take the room of four.
+    pub fn reserve(&mut self, more: usize) -> Result<(), NoMemory>
+        ensures { self.new ≡ self.old }
+    {
+        self.items.reserve_exact(more)?;
+        Ok(())
+    }
+
     /// The items as a `Vec`. Takes no memory.
     pub fn into_vec(self) -> Vec<T>
         ensures { result.items ≡ self }

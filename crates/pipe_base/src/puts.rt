@@ -15,7 +15,12 @@ impl Step {
         ensures err { OnErr result (self.new ≡ self.old) }
     {
         match routes.pick(packet.src, packet.dst) {
-            Some(link) => self.put.push((link, packet))?,
+            Some(link) => {
+                if self.put.is_empty() {
+                    self.put.reserve(1)?;
+                }
+                self.put.push((link, packet))?;
+            }
             None => self.unrouted += 1,
         }
         Ok(())
@@ -32,6 +37,7 @@ impl Step {
         ensures ok { OnOk result (self.new ≡ with_beacons links.now (record { be = be.0; commit = commit.0 }) self.old) }
         ensures err { OnErr result (PutsAlone self.old self.new) }
     {
+        self.put.reserve(links.len())?;
         'links: for link in links {
             self.put.push((*link, one_beacon(alloc, be, commit)))?;
         }

@@ -103,7 +103,7 @@ impl Step {
     }
 }
 
-fn copy_puts(list: &PutList) -> Result<PutList, NoMemory>
+pub(crate) fn copy_puts(list: &PutList) -> Result<PutList, NoMemory>
     ensures { IfOk result (λ copy. copy ≡ list.now) }
 {
     Ok(list.clone()?)
@@ -127,7 +127,7 @@ fn copy_drops(list: &LinkList) -> Result<LinkList, NoMemory>
     Ok(list.clone()?)
 }
 
-fn copy_entries(list: &LoggedList) -> Result<LoggedList, NoMemory>
+pub(crate) fn copy_entries(list: &LoggedList) -> Result<LoggedList, NoMemory>
     ensures { IfOk result (λ copy. copy ≡ list.now) }
 {
     Ok(list.clone()?)

@@ -1,5 +1,5 @@
 // A replay: the events of an input, run one by one, and the text of the run.
-ghost use Rattle.std.specs.Prelude.{◌≡◌, ◌≤◌, ℕ, All, List, [], length, map, IfOk, IfErr, OnOk};
+ghost use Rattle.std.specs.Prelude.{◌≡◌, ◌≤◌, ℕ, All, List, [], length, map, vec_len, IfOk, IfErr, OnOk};
 ghost use Rattle.pipe_base.specs.Limits.{most_bytes};
 ghost use Rattle.pipe_model.specs.Run.{event_of};
 ghost use Rattle.pipe_text_input.specs.Content.{content_of};
@@ -12,7 +12,7 @@ use crate::read::INPUT_LIMIT;
 use crate::status::{Status, status_of_fault};
 use crate::words::Form;
 use pipe_base::{List, NoMemory, Size};
-use pipe_model::{EventList, Trace};
+use pipe_model::{Event, EventList, Trace};
 use pipe_text::Text;
 use pipe_text_input::{Input, read_input};
 use pipe_text_log::print_logs;
@@ -28,10 +28,10 @@ pub struct Replayed {
     pub text: Text,
 }
 
-/// Runs an input, or answers its refusal.
-pub fn replay(alloc: Global, form: Form, bytes: &[u8]) -> Result<Replayed, Status>
-    ensures ok { IfOk result (λ done. Replays form bytes.now done.trace done.text) }
-    ensures err { IfErr result (IsRefusal bytes.now) }
+/// Runs an input, or answers its refusal. The bytes are gone once they are read.
+pub fn replay(alloc: Global, form: Form, bytes: Vec<u8>) -> Result<Replayed, Status>
+    ensures ok { IfOk result (λ done. Replays form bytes.items done.trace done.text) }
+    ensures err { IfErr result (IsRefusal bytes.items) }
 {
     if bytes.len() > INPUT_LIMIT {
         return Err(Status::TooLong {
@@ -39,7 +39,9 @@ pub fn replay(alloc: Global, form: Form, bytes: &[u8]) -> Result<Replayed, Statu
             count: 67_108_865,
         });
     }
-    match read_input(alloc, bytes) {
+    let read = read_input(alloc, &bytes);
+    drop(bytes);
+    match read {
         Ok(input) => run_input(alloc, form, input),
         Err(fault) => Err(status_of_fault(fault)),
     }
@@ -111,6 +113,17 @@ fn run_events(world: &mut World, events: EventList) -> Result<(), StepFault>
     left.reverse();
     'running: while let Some(event) = left.pop() {
         world.step(event)?;
+        give_back(&mut left);
     }
     Ok(())
+}
+
+/// Gives the room of the events that have happened back, once it is half of all.
+fn give_back(left: &mut Vec<Event>)
+    ensures items { left.new.items ≡ left.old.items }
+    ensures len { vec_len left.new ≡ vec_len left.old }
+{
+    if left.len() < left.capacity() / 2 {
+        left.shrink_to_fit();
+    }
 }

@@ -48,7 +48,7 @@ pub fn run<S: Source, K: Sink>(
         Err(ReadStop::Failed) => return stopped(alloc, Status::ReadFault),
         Err(ReadStop::NoMemory) => return stopped(alloc, Status::NoMemory),
     };
-    match replay(alloc, form, &bytes) {
+    match replay(alloc, form, bytes) {
         Err(refusal) => stopped(alloc, refusal),
         Ok(done) => write_out(sink, done),
     }

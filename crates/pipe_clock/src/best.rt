@@ -24,6 +24,7 @@ impl BeSend {
         ensures ok { OnOk result (step.new ≡ with_ways (picked (R.links routes.now)) (map (message_to src ts (record { be = ts.0; commit = commit.0 })) dests.now) step.old) }
         ensures err { OnErr result (PutsAlone step.old step.new) }
     {
+        step.put.reserve(dests.len())?;
         'dests: for dest in dests.as_slice() {
             let packet = message(src, ts, commit, dest)?;
             step.put_on_way(routes, packet)?;

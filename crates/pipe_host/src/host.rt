@@ -20,7 +20,7 @@ use crate::fates::{hold, is_message, key_of, let_go};
 use crate::times::{deliver, follow};
 use pipe_barrier::Registers;
 use pipe_base::{
-    DestList, Fate, HostId, LinkId, NoMemory, NodeId, Outcome, Packet, Service, Step, Ts,
+    DestList, Fate, HostId, KeptStep, LinkId, NoMemory, NodeId, Outcome, Packet, Service, Step, Ts,
 };
 use pipe_clock::{BeSend, ClockEnd, HostClock};
 use pipe_links::Links;
@@ -97,30 +97,27 @@ impl Host {
 
     /// Works out what a best-effort send does: a message to each receiver under one stamp, or a refusal where the clock is
     /// at its end. Nothing changes.
-    pub fn work_send(&self, now: Ts, dests: &DestList) -> Result<Step, NoMemory>
+    pub fn work_send(&self, now: Ts, dests: &DestList) -> Result<KeptStep, NoMemory>
         requires few { length dests.now < 2 ^ 32 }
         ensures { IfOk result (λ step. (graph : Graph) (host : HostId) (own : List ARecord) → Stands graph host.0 own self.now
             → Works graph host.0 own (record { event = Send host BestEffort now dests.now; took = Took.Nothing; step = step }) self.now) }
     {
-        let mut step = Step::new(self.alloc);
         let mut clock = self.clock;
         let stamp = match clock.stamp(now) {
             Ok(stamp) => stamp,
-            Err(ClockEnd { next }) => {
-                step.outcome = Outcome::ClockEnd { next };
-                return Ok(step);
-            }
+            Err(ClockEnd { next }) => return Ok(KeptStep::quiet(Outcome::ClockEnd { next })),
         };
+        let mut step = Step::new(self.alloc);
         step.stamped = Some(stamp);
         let src = HostId(self.links.node().0);
         let routes = self.links.routes();
         BeSend::send(dests, src, stamp, clock.next(), routes, &mut step)?;
-        Ok(step)
+        step.keep(self.alloc)
     }
 
     /// Works out what a tick does. Nothing changes. Links that were silent for the patience go down, what the barrier passes
     /// then is logged, and a beacon with the host's promises after that is put on each link out of it.
-    pub fn work_tick(&self, now: Ts) -> Result<Step, NoMemory>
+    pub fn work_tick(&self, now: Ts) -> Result<KeptStep, NoMemory>
         ensures { IfOk result (λ step. (graph : Graph) (node : NodeId) (own : List ARecord) → Stands graph node.0 own self.now
             → Works graph node.0 own (ticked node now step) self.now) }
     {
@@ -130,23 +127,21 @@ impl Host {
         self.held.copy_passed(barriers.be, &mut step.logged)?;
         let mut clock = self.clock;
         clock.tick(now);
-        deliver(&mut clock, &step.logged, barriers.be);
+        deliver(&mut clock, step.logged.as_slice(), barriers.be);
         let next = clock.next();
         self.links.put_beacons(self.alloc, next, next, &mut step)?;
-        Ok(step)
+        step.keep(self.alloc)
     }
 
     /// Works out what the taking of a packet from a link into the host does. Nothing changes but that the message that the
     /// packet brings is held, where that is its fate. A packet on a link that is not up is ignored.
-    pub fn work_take(&mut self, link: LinkId, packet: &Packet) -> Result<Step, NoMemory>
+    pub fn work_take(&mut self, link: LinkId, packet: &Packet) -> Result<KeptStep, NoMemory>
         ensures ok { IfOk result (λ step. (graph : Graph) (node : ℕ) (own : List ARecord) (place : ℕ) (keep : Bool) → Stands graph node own self.old
             → has_link link.0 (ins_of graph node) ≡ true → Works graph node own (taken link packet.now place keep step) self.new) }
         ensures err { OnErr result (self.new ≡ self.old) }
     {
         if !self.links.is_up(link) {
-            let mut step = Step::new(self.alloc);
-            step.outcome = Outcome::Ignored;
-            return Ok(step);
+            return Ok(KeptStep::quiet(Outcome::Ignored));
         }
         let fate = self.fate(packet);
         hold(&mut self.held, fate, packet)?;
@@ -173,14 +168,19 @@ impl Host {
     }
 
     /// The step of a packet that was received, where its message is held already.
-    fn receive(&self, link: LinkId, packet: &Packet, fate: Option<Fate>) -> Result<Step, NoMemory>
+    fn receive(
+        &self,
+        link: LinkId,
+        packet: &Packet,
+        fate: Option<Fate>,
+    ) -> Result<KeptStep, NoMemory>
         ensures { IfOk result (IsReceipt self.now link packet.now fate) }
     {
         let barriers = self.links.barriers_with(link, packet);
         let mut step = Step::new(self.alloc);
         step.fate = fate;
         self.held.copy_passed(barriers.be, &mut step.logged)?;
-        Ok(step)
+        step.keep(self.alloc)
     }
 
     /// Takes over the record of a step that was worked out. Takes no memory.
@@ -201,7 +201,7 @@ impl Host {
             → IsNodeStep graph node own «record».now → Stands graph node own self.new }
     {
         if let Took::Link { packet, .. } = &record.took {
-            let_go(&mut self.held, record.step.fate, packet);
+            let_go(&mut self.held, record.step.fate(), packet);
         }
     }
 
@@ -232,7 +232,7 @@ impl Host {
             step: worked,
         };
         self.follow(&record);
-        *step = record.step;
+        *step = record.step.into_step(self.alloc);
         Ok(())
     }
 
@@ -254,7 +254,7 @@ impl Host {
             step: worked,
         };
         self.follow(&record);
-        *step = record.step;
+        *step = record.step.into_step(self.alloc);
         Ok(())
     }
 
@@ -275,7 +275,7 @@ impl Host {
             step: worked,
         };
         self.follow(&record);
-        *step = record.step;
+        *step = record.step.into_step(self.alloc);
         Ok(())
     }
 

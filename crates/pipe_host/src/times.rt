@@ -5,15 +5,15 @@ ghost use Rattle.pipe_base.specs.Limits.{last_stamp};
 ghost use Rattle.pipe_base.specs.Messages.{AreBelow};
 ghost use Rattle.pipe_model.specs.Clock.{tick_reading};
 
-use pipe_base::{LoggedList, Ts};
+use pipe_base::{Entry, Service, Ts};
 use pipe_clock::HostClock;
 use pipe_model::{Event, Record};
 
 /// The clock is above all that was logged, which is below a barrier.
-pub fn deliver(clock: &mut HostClock, logged: &LoggedList, barrier: Ts)
+pub fn deliver(clock: &mut HostClock, logged: &[(Service, Entry)], barrier: Ts)
     ensures { AreBelow barrier.0 logged.now → clock.new.next.0 ≡ max clock.old.next.0 (after_logged logged.now) }
 {
-    'entries: for (_, entry) in logged.as_slice() {
+    'entries: for (_, entry) in logged {
         clock.delivered(entry.key.ts);
     }
 }
@@ -24,8 +24,8 @@ pub fn follow(clock: &mut HostClock, record: &Record, barrier: Ts)
         → clock.new.next.0 ≡ next_after clock.old.next.0 (tick_reading «record».now.event) «record».now.step.stamped «record».now.step.logged }
 {
     read(clock, &record.event);
-    stamp(clock, record.step.stamped);
-    deliver(clock, &record.step.logged, barrier);
+    stamp(clock, record.step.stamped());
+    deliver(clock, record.step.logged(), barrier);
 }
 
 /// The clock is at least the reading of a tick.

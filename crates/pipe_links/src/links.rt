@@ -181,7 +181,7 @@ fn follow(ins: &mut InLinks, record: &Record)
         Some(receipt) => ins.receive(receipt.link, receipt.be, receipt.commit),
         None => {
             if let Some(now) = tick_of(&record.event) {
-                ins.tick(now, &record.step.downed);
+                ins.tick(now, record.step.downed());
             }
         }
     }

@@ -1,7 +1,7 @@
 // What happened: an event with what was taken and what the acting node did.
 
 use crate::Event;
-use pipe_base::{Addressed, LinkId, List, NoMemory, Packet, Step};
+use pipe_base::{Addressed, KeptStep, LinkId, List, NoMemory, Packet};
 
 /// What an event took from where it waited.
 #[derive(Clone, Debug, Drop)]
@@ -16,7 +16,7 @@ pub enum Took {
 pub struct Record {
     pub event: Event,
     pub took: Took,
-    pub step: Step,
+    pub step: KeptStep,
 }
 
 /// All that happened, the oldest record first.

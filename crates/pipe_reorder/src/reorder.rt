@@ -1,5 +1,5 @@
 // The held messages of one service.
-ghost use Rattle.std.specs.Prelude.{◌≡◌, ◌++◌, ℕ, List, length, false, IfOk, OnOk, OnErr};
+ghost use Rattle.std.specs.Prelude.{◌≡◌, ◌++◌, ◌∷◌, [], ℕ, List, length, false, IfOk, OnOk, OnErr};
 ghost use Rattle.pipe_base.specs.Messages.{IsInOrder, has_key, from_barrier, below_barrier, logged_of, AreBelow};
 ghost use Rattle.pipe_reorder.specs.Buffer.{Buffer, empty_buffer, buffer_with, buffer_without, passed_by, left_by};
 ghost use Rattle.pipe_base.specs.Fate.{fate_of};
@@ -169,9 +169,20 @@ fn copy_below(
             break;
         }
         let body = body.try_clone()?;
-        out.push((service, Entry { key: *key, body }))?;
+        add(out, (service, Entry { key: *key, body }))?;
     }
     Ok(())
+}
+
+// Appends an entry. Most logs of a step have one, so the first takes no room for more.
+fn add(out: &mut LoggedList, entry: (Service, Entry)) -> Result<(), NoMemory>
+    ensures ok { OnOk result (out.new ≡ out.old ++ entry ∷ []) }
+    ensures err { OnErr result (out.new ≡ out.old) }
+{
+    if out.is_empty() {
+        out.reserve(1)?;
+    }
+    out.push(entry)
 }
 
 fn drop_below(held: &mut BTreeMap<Key, Body>, barrier: Ts)

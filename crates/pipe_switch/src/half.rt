@@ -13,7 +13,7 @@ ghost use Rattle.pipe_model.specs.Run.{IsNodeStep};
 ghost use Rattle.pipe_switch.specs.Half.{Does, IsPassing, Stands, taken, ticked};
 
 use pipe_barrier::{Barriers, Registers};
-use pipe_base::{LinkId, NoMemory, NodeId, Outcome, Packet, PacketKind, Step, Ts};
+use pipe_base::{KeptStep, LinkId, NoMemory, NodeId, Outcome, Packet, PacketKind, Step, Ts};
 use pipe_links::Links;
 use pipe_model::{Event, Record, Took};
 use pipe_topo::Topology;
@@ -50,16 +50,15 @@ impl Half {
 
     /// Works out what the taking of a packet from a link into the half does. Nothing changes. A packet on a link that is
     /// not up is ignored; any other raises the registers, and goes on with the half's own barriers unless it is a beacon.
-    pub fn work_take(&self, link: LinkId, packet: &Packet) -> Result<Step, NoMemory>
+    pub fn work_take(&self, link: LinkId, packet: &Packet) -> Result<KeptStep, NoMemory>
         ensures { IfOk result (λ step. (graph : Graph) (node : ℕ) (own : List ARecord) (place : ℕ) (keep : Bool) → Stands graph node own self.now
             → has_link link.0 (ins_of graph node) ≡ true → IsNodeStep graph node own (taken link packet.now place keep step)) }
     {
         if !self.links.is_up(link) {
-            let mut step = Step::new(self.alloc);
-            step.outcome = Outcome::Ignored;
-            return Ok(step);
+            return Ok(KeptStep::quiet(Outcome::Ignored));
         }
-        self.pass_on(link, packet)
+        let step = self.pass_on(link, packet)?;
+        step.keep(self.alloc)
     }
 
     /// The step of a packet that was received.
@@ -77,7 +76,7 @@ impl Half {
 
     /// Works out what a tick does. Nothing changes. Links that were silent for the patience go down, and a beacon with the
     /// barriers after that is put on each link out of the half.
-    pub fn work_tick(&self, now: Ts) -> Result<Step, NoMemory>
+    pub fn work_tick(&self, now: Ts) -> Result<KeptStep, NoMemory>
         ensures { IfOk result (λ step. (graph : Graph) (node : NodeId) (own : List ARecord) → Stands graph node.0 own self.now
             → IsNodeStep graph node.0 own (ticked node now step)) }
     {
@@ -86,7 +85,7 @@ impl Half {
         let barriers = self.links.barriers_without(&step.downed)?;
         self.links
             .put_beacons(self.alloc, barriers.be, barriers.commit, &mut step)?;
-        Ok(step)
+        step.keep(self.alloc)
     }
 
     /// Takes over a record of the half's own. Takes no memory.
@@ -114,7 +113,7 @@ impl Half {
             took: Took::Link { link, packet },
         };
         self.links.follow(&record);
-        *step = record.step;
+        *step = record.step.into_step(self.alloc);
         Ok(())
     }
 
@@ -134,7 +133,7 @@ impl Half {
             took: Took::Nothing,
         };
         self.links.follow(&record);
-        *step = record.step;
+        *step = record.step.into_step(self.alloc);
         Ok(())
     }
 

@@ -3,7 +3,7 @@ ghost use Rattle.std.specs.Prelude.{◌≡◌, ◌++◌, ◌∷◌, ◌<◌, len
 ghost use Rattle.std.specs.Option.{option_map};
 ghost use Rattle.pipe_text.specs.Body.{hex_value, byte_of, byte_onto, bytes_of, body_of, hex_digit, hex_text};
 
-use pipe_base::{Body, BodyFault, NoMemory};
+use pipe_base::{BODY_LIMIT, Body, BodyFault, NoMemory};
 use std::alloc::Global;
 
 fn hex_value(digit: u8) -> Option<u8>
@@ -35,7 +35,7 @@ fn first_byte(high: u8, tail: &[u8]) -> Option<(u8, &[u8])>
 fn bytes_of(alloc: Global, word: &[u8]) -> Result<Option<Vec<u8>>, NoMemory>
     ensures { IfOk result (λ found. option_map (λ bytes. bytes.items) found ≡ bytes_of word.now) }
 {
-    let mut bytes = Vec::new(alloc);
+    let mut bytes = Vec::with_capacity(alloc, BODY_LIMIT.min(word.len() / 2))?;
     let mut rest = word;
     'pairs: while let Some((high, tail)) = rest.split_first() {
         let Some((byte, after)) = first_byte(*high, tail) else {
@@ -54,7 +54,7 @@ pub fn read_body(alloc: Global, word: &[u8]) -> Result<Option<Body>, NoMemory>
     let Some(bytes) = bytes_of(alloc, word)? else {
         return Ok(None);
     };
-    match Body::new(alloc, &bytes) {
+    match Body::from_vec(bytes) {
         Ok(body) => Ok(Some(body)),
         Err(BodyFault::TooLong { .. }) => Ok(None),
         Err(BodyFault::NoMemory) => Err(NoMemory),

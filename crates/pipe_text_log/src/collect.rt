@@ -73,7 +73,7 @@ fn receiver(took: &Took) -> Option<u16>
 fn actor(links: &[Link], happened: &Record) -> Option<u16>
     ensures { (n : ℕ) → is_own (graph_with links.now) n happened.now ≡ is_node result n }
 {
-    if is_idle(happened.step.outcome) {
+    if is_idle(happened.step.outcome()) {
         return None;
     }
     match &happened.event {
@@ -99,10 +99,7 @@ fn add_record<'a>(
     ensures { OnOk result ((past : List Record) → AreLogs (graph_with links.now) hosts past all.old → AreLogs (graph_with links.now) hosts (happened.now ∷ past) all.new) }
 {
     match actor(links, happened) {
-        Some(node) if node < hosts => add(
-            &mut all[usize::from(node)],
-            happened.step.logged.as_slice(),
-        ),
+        Some(node) if node < hosts => add(&mut all[usize::from(node)], happened.step.logged()),
         _ => Ok(()),
     }
 }

@@ -244,15 +244,15 @@ pub fn print_record(
 {
     let step = &happened.step;
     print_event_line(out, names, hosts, at, &happened.event)?;
-    print_outcome_line(out, names, step.outcome)?;
-    print_stamp_lines(out, step.stamped)?;
+    print_outcome_line(out, names, step.outcome())?;
+    print_stamp_lines(out, step.stamped())?;
     print_took_lines(out, names, hosts, &happened.took)?;
-    print_down_lines(out, step.downed.as_slice())?;
-    print_noted_lines(out, names, step.noted.as_slice())?;
-    print_dropped_lines(out, step.dropped.as_slice())?;
-    print_fate_lines(out, step.fate)?;
-    print_logged_lines(out, names, step.logged.as_slice())?;
-    print_put_lines(out, names, step.put.as_slice())?;
-    print_control_lines(out, names, hosts, step.control.as_slice())?;
-    print_unrouted_lines(out, step.unrouted)
+    print_down_lines(out, step.downed())?;
+    print_noted_lines(out, names, step.noted())?;
+    print_dropped_lines(out, step.dropped())?;
+    print_fate_lines(out, step.fate())?;
+    print_logged_lines(out, names, step.logged())?;
+    print_put_lines(out, names, step.put())?;
+    print_control_lines(out, names, hosts, step.control())?;
+    print_unrouted_lines(out, step.unrouted())
 }

@@ -26,7 +26,7 @@ pub fn enter(queues: &mut [Queue], history: &mut History, record: Record) -> Res
     ensures queues_ok { OnOk result ((graph : Graph) (past : List Record) → Stand graph queues.old past → Stand graph queues.new («record» ∷ past)) }
     ensures queues_err { OnErr result ((graph : Graph) (past : List Record) → Stand graph queues.old past → Stand graph queues.new past) }
 {
-    if put_all(queues, record.step.put.as_slice()).is_err() {
+    if put_all(queues, record.step.put()).is_err() {
         return Err(Refused {
             record,
             fault: StepFault::NoMemory,
@@ -35,12 +35,12 @@ pub fn enter(queues: &mut [Queue], history: &mut History, record: Record) -> Res
     let at = history.trace().len();
     match history.push(record) {
         Err(refused) => {
-            take_back(queues, refused.record.step.put.as_slice());
+            take_back(queues, refused.record.step.put());
             Err(refused)
         }
         Ok(()) => {
             let record = &history.trace().as_slice()[at];
-            take_out(queues, &record.event, record.step.outcome);
+            take_out(queues, &record.event, record.step.outcome());
             Ok(())
         }
     }

@@ -15,14 +15,12 @@ use crate::fault::StepFault;
 use crate::history::History;
 use crate::node::Node;
 use crate::queue::Queue;
-use pipe_base::{NoMemory, NodeId, Outcome, Step};
+use pipe_base::{KeptStep, NoMemory, NodeId, Outcome};
 use pipe_model::{Event, Record, Took};
 use pipe_topo::Topology;
-use std::alloc::Global;
 
 /// Appends the record of an event and changes what it changes. On a fault nothing happens.
 pub fn happen(
-    alloc: Global,
     topology: &Topology,
     nodes: &mut [Node],
     queues: &mut [Queue],
@@ -38,7 +36,7 @@ pub fn happen(
     ensures stands { Stands topology.now nodes.new queues.new history.new }
 {
     if !is_there(queues, &event) {
-        return pass_by(alloc, queues, history, event, Outcome::NoItem);
+        return pass_by(queues, history, event, Outcome::NoItem);
     }
     match acting_node(topology, &event) {
         Some(id) => act(
@@ -49,7 +47,7 @@ pub fn happen(
             history,
             event,
         ),
-        None => pass_by(alloc, queues, history, event, Outcome::Ok),
+        None => pass_by(queues, history, event, Outcome::Ok),
     }
 }
 
@@ -84,7 +82,6 @@ fn acting_node(topology: &Topology, event: &Event) -> Option<NodeId>
 
 /// An event that changes no node: nothing waits at its place, or nobody acts in it.
 fn pass_by(
-    alloc: Global,
     queues: &mut [Queue],
     history: &mut History,
     event: Event,
@@ -96,12 +93,10 @@ fn pass_by(
     ensures err { OnErr result (IsAsBefore queues.old queues.new history.old history.new) }
     ensures full { IfErr result (FullBy history.old (quiet_record event outcome)) }
 {
-    let mut step = Step::new(alloc);
-    step.outcome = outcome;
     let record = Record {
         event,
         took: Took::Nothing,
-        step,
+        step: KeptStep::quiet(outcome),
     };
     match enter(queues, history, record) {
         Ok(()) => Ok(()),
@@ -154,7 +149,7 @@ fn act(
 #[derive(Drop)]
 pub struct Work {
     took: Took,
-    step: Step,
+    step: KeptStep,
 }
 
 /// Works out the step of the node that acts. Of the node only the message that it holds is changed.
@@ -185,7 +180,7 @@ fn work_at(node: &mut Node, queues: &[Queue], event: &Event) -> Result<Work, NoM
 }
 
 /// The work of a step that takes nothing.
-fn untaken(step: Step) -> Work
+fn untaken(step: KeptStep) -> Work
     ensures { result ≡ record { took = Took.Nothing; step = step } }
 {
     Work {

@@ -73,7 +73,7 @@ impl History {
         requires { items_in «record».now ≤ most_items }
         ensures { result ≡ items_of self.now + items_in «record».now }
     {
-        self.items + record.step.put.len() as u32 + record.step.control.len() as u32
+        self.items + record.step.put().len() as u32 + record.step.control().len() as u32
     }
 
     /// Appends a record, unless it puts too much or there is no memory.

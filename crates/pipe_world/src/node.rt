@@ -11,7 +11,7 @@ ghost use Rattle.pipe_model.specs.Acting.{ComesIn};
 ghost use Rattle.pipe_model.specs.Run.{IsNodeStep};
 ghost use Rattle.pipe_world.specs.Node.{Stands, StandsWith, Works};
 
-use pipe_base::{DestList, LinkId, NoMemory, NodeId, Packet, Step, Ts};
+use pipe_base::{DestList, KeptStep, LinkId, NoMemory, NodeId, Packet, Ts};
 use pipe_host::Host;
 use pipe_model::{Record, Took};
 use pipe_switch::Half;
@@ -25,7 +25,7 @@ pub enum Node {
 
 impl Node {
     /// Works out a best-effort send of a host.
-    pub fn work_send(&self, now: Ts, dests: &DestList) -> Result<Step, NoMemory>
+    pub fn work_send(&self, now: Ts, dests: &DestList) -> Result<KeptStep, NoMemory>
         requires host { (graph : Graph) × (node : ℕ) × (own : List ARecord) × (is_host graph node ≡ true) × Stands graph node own self.now }
         requires few { length dests.now < 2 ^ 32 }
         ensures { IfOk result (λ step. (graph : Graph) (host : HostId) (own : List ARecord) → Stands graph host.0 own self.now
@@ -38,7 +38,7 @@ impl Node {
     }
 
     /// Works out a tick.
-    pub fn work_tick(&self, now: Ts) -> Result<Step, NoMemory>
+    pub fn work_tick(&self, now: Ts) -> Result<KeptStep, NoMemory>
         ensures { IfOk result (λ step. (graph : Graph) (node : NodeId) (own : List ARecord) → Stands graph node.0 own self.now
             → Works graph node.0 own (ticked node now step) self.now) }
     {
@@ -49,7 +49,7 @@ impl Node {
     }
 
     /// Works out the taking of a packet from a link into the node. Of the node only the message that it holds is changed.
-    pub fn work_take(&mut self, link: LinkId, packet: &Packet) -> Result<Step, NoMemory>
+    pub fn work_take(&mut self, link: LinkId, packet: &Packet) -> Result<KeptStep, NoMemory>
         ensures ok { IfOk result (λ step. (graph : Graph) (node : ℕ) (own : List ARecord) (place : ℕ) (keep : Bool) → Stands graph node own self.old
             → has_link link.0 (ins_of graph node) ≡ true → Works graph node own (taken link packet.now place keep step) self.new) }
         ensures err { OnErr result (self.new ≡ self.old) }

@@ -34,7 +34,6 @@ use std::marker::Model;
 /// A network that runs a schedule: one record per event, each proved to be what the rules say.
 #[derive(Drop)]
 pub struct World {
-    alloc: Global,
     topology: Topology,
     nodes: Vec<Node>,
     queues: Vec<Queue>,
@@ -59,7 +58,6 @@ impl World {
         let nodes = fresh_nodes(alloc, &topology)?;
         let queues = empty_queues(alloc, topology.links())?;
         Ok(World {
-            alloc,
             topology,
             nodes,
             queues,
@@ -76,7 +74,6 @@ impl World {
         ensures err { OnErr result (self.new ≡ self.old) }
     {
         happen(
-            self.alloc,
             &self.topology,
             &mut self.nodes,
             &mut self.queues,

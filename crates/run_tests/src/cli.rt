@@ -269,7 +269,7 @@ static WAYS: [[u64; 6]; 4] = [
 
 // Whether the record puts this message alone.
 fn puts(record: &Record, expected: &[u64; 6]) -> bool {
-    match record.step.put.as_slice() {
+    match record.step.put() {
         [put] => put.1.kind == PacketKind::Plain && way(put) == *expected,
         _ => false,
     }

@@ -70,25 +70,25 @@ fn take(rt: &impl Abort, world: &mut World, link: u16, place: u32, keep: bool) -
 /// What a record tells beside its event, in the words of the trace text.
 fn told(alloc: Global, record: &Record) -> Result<String, AllocError> {
     let mut text = String::new(alloc);
-    tell_outcome(&mut text, record.step.outcome)?;
+    tell_outcome(&mut text, record.step.outcome())?;
     if let Took::Link { link, packet } = &record.took {
         write!(text, ", took {}", link.0)?;
         tell_packet(&mut text, packet)?;
     }
-    if let Some(stamp) = record.step.stamped {
+    if let Some(stamp) = record.step.stamped() {
         write!(text, ", stamp {}", stamp.0)?;
     }
-    if let Some(fate) = record.step.fate {
+    if let Some(fate) = record.step.fate() {
         tell_fate(&mut text, fate)?;
     }
-    for (_, entry) in record.step.logged.as_slice() {
+    for (_, entry) in record.step.logged() {
         write!(text, ", logged {} h{} ", entry.key.ts.0, entry.key.src.0)?;
         tell_body(&mut text, &entry.body)?;
     }
-    for (link, value) in record.step.downed.as_slice() {
+    for (link, value) in record.step.downed() {
         write!(text, ", down {} {}", link.0, value.0)?;
     }
-    for (link, packet) in record.step.put.as_slice() {
+    for (link, packet) in record.step.put() {
         write!(text, ", put {}", link.0)?;
         tell_packet(&mut text, packet)?;
     }

@@ -29,7 +29,7 @@ fn delivery(
             keep: false,
         },
         took: Took::Nothing,
-        step,
+        step: step.keep(alloc)?,
     })
 }
 

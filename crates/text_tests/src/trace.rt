@@ -2,18 +2,25 @@
 
 use pipe_text_trace::{print_event, print_trace};
 use pipe_base::{
-    Addressed, Announced, Body, Control, Entry, Fate, HostId, Key, LinkId, List, NodeId, Outcome,
-    Packet, PacketKind, Service, Step, To, Ts,
+    Addressed, Announced, Body, Control, Entry, Fate, HostId, KeptStep, Key, LinkId, List, NodeId,
+    Outcome, Packet, PacketKind, Service, Step, To, Ts,
 };
 use pipe_model::{Event, Record, Took, Trace};
 use pipe_topo::Names;
 use std::alloc::Global;
 use std::test::Fail;
 
-fn happened(alloc: Global, event: Event, took: Took, outcome: Outcome) -> Record {
-    let mut step = Step::new(alloc);
-    step.outcome = outcome;
+fn happened(event: Event, took: Took, outcome: Outcome) -> Record {
+    let step = KeptStep::quiet(outcome);
     Record { event, took, step }
+}
+
+fn did(event: Event, step: KeptStep) -> Record {
+    Record {
+        event,
+        took: Took::Nothing,
+        step,
+    }
 }
 
 fn packet(alloc: Global, kind: PacketKind, body: &[u8]) -> Result<Packet, Fail> {
@@ -42,18 +49,22 @@ fn taken(
         place: 3,
         keep,
     };
-    let mut record = happened(alloc, event, Took::Link { link, packet }, Outcome::Ok);
-    record.step.fate = fate;
-    Ok(record)
+    let mut step = Step::new(alloc);
+    step.fate = fate;
+    Ok(Record {
+        event,
+        took: Took::Link { link, packet },
+        step: step.keep(alloc)?,
+    })
 }
 
-fn told(alloc: Global, to: To, control: Control, keep: bool) -> Record {
+fn told(to: To, control: Control, keep: bool) -> Record {
     let event = Event::ControlTake {
         place: 4294967295,
         keep,
     };
     let addressed = Addressed { to, control };
-    happened(alloc, event, Took::Message { addressed }, Outcome::Ok)
+    happened(event, Took::Message { addressed }, Outcome::Ok)
 }
 
 const FAILED: Announced = Announced {
@@ -73,7 +84,6 @@ fn add_sends(alloc: Global, trace: &mut Trace) -> Result<(), Fail> {
         dests,
     };
     trace.push(happened(
-        alloc,
         refused,
         Took::Nothing,
         Outcome::DestFailed { host: HostId(1) },
@@ -86,12 +96,12 @@ fn add_sends(alloc: Global, trace: &mut Trace) -> Result<(), Fail> {
         now: Ts(10),
         dests,
     };
-    let mut stamped = happened(alloc, event, Took::Nothing, Outcome::Ok);
-    stamped.step.stamped = Some(Ts(10));
+    let mut step = Step::new(alloc);
+    step.stamped = Some(Ts(10));
     let plain = packet(alloc, PacketKind::Plain, b"")?;
-    stamped.step.put.push((LinkId(0), plain))?;
-    stamped.step.unrouted = 2;
-    trace.push(stamped)?;
+    step.put.push((LinkId(0), plain))?;
+    step.unrouted = 2;
+    trace.push(did(event, step.keep(alloc)?))?;
     Ok(())
 }
 
@@ -99,21 +109,21 @@ fn add_sends(alloc: Global, trace: &mut Trace) -> Result<(), Fail> {
 fn add_ticks(alloc: Global, trace: &mut Trace) -> Result<(), Fail> {
     let now = Ts(0);
     let node = NodeId(2);
-    let mut up = happened(alloc, Event::Tick { node, now }, Took::Nothing, Outcome::Ok);
-    up.step.downed.push((LinkId(2), Ts(9)))?;
-    up.step.downed.push((LinkId(0), Ts(8)))?;
+    let mut step = Step::new(alloc);
+    step.downed.push((LinkId(2), Ts(9)))?;
+    step.downed.push((LinkId(0), Ts(8)))?;
     let beacon = packet(alloc, PacketKind::Beacon, b"")?;
-    up.step.put.push((LinkId(4), beacon))?;
+    step.put.push((LinkId(4), beacon))?;
     let control = Control::Down {
         link: LinkId(2),
         value: Ts(9),
     };
     let to = To::Controller;
-    up.step.control.push(Addressed { to, control })?;
-    trace.push(up)?;
+    step.control.push(Addressed { to, control })?;
+    trace.push(did(Event::Tick { node, now }, step.keep(alloc)?))?;
     let node = NodeId(0);
     let window = Outcome::Window { count: 16 };
-    trace.push(happened(alloc, Event::Tick { node, now }, Took::Nothing, window))?;
+    trace.push(happened(Event::Tick { node, now }, Took::Nothing, window))?;
     Ok(())
 }
 
@@ -147,20 +157,17 @@ fn add_takes(alloc: Global, trace: &mut Trace) -> Result<(), Fail> {
     trace.push(taken(alloc, PacketKind::Ack, b"", false, None)?)?;
     trace.push(taken(alloc, PacketKind::Recall, b"", false, None)?)?;
     let mut logging = taken(alloc, PacketKind::RecallAck, b"", false, None)?;
+    let mut step = Step::new(alloc);
     let key = Key {
         ts: Ts(10),
         src: HostId(0),
     };
     let body = Body::new(alloc, b"hi")?;
-    logging
-        .step
-        .logged
+    step.logged
         .push((Service::BestEffort, Entry { key, body }))?;
     let body = Body::empty(alloc);
-    logging
-        .step
-        .logged
-        .push((Service::Reliable, Entry { key, body }))?;
+    step.logged.push((Service::Reliable, Entry { key, body }))?;
+    logging.step = step.keep(alloc)?;
     trace.push(logging)?;
     Ok(())
 }
@@ -170,22 +177,17 @@ fn add_controls(alloc: Global, trace: &mut Trace) -> Result<(), Fail> {
     let host = HostId(0);
     let node = NodeId(3);
     let count = 2;
-    trace.push(told(
-        alloc,
-        To::Node(node),
-        Control::Freeze { link: LinkId(2) },
-        true,
-    ))?;
-    trace.push(told(alloc, To::Controller, Control::Done { host, count }, false))?;
-    trace.push(told(alloc, To::Controller, Control::Gone { node, count }, false))?;
-    let mut decided = happened(alloc, Event::Decide, Took::Nothing, Outcome::Ok);
-    decided.step.noted.push(FAILED)?;
-    decided.step.dropped.push(LinkId(3))?;
+    trace.push(told(To::Node(node), Control::Freeze { link: LinkId(2) }, true))?;
+    trace.push(told(To::Controller, Control::Done { host, count }, false))?;
+    trace.push(told(To::Controller, Control::Gone { node, count }, false))?;
+    let mut step = Step::new(alloc);
+    step.noted.push(FAILED)?;
+    step.dropped.push(LinkId(3))?;
     let mut list = List::new(alloc);
     list.push(FAILED)?;
     list.push(FAILED)?;
     let to = To::Node(NodeId(0));
-    decided.step.control.push(Addressed {
+    step.control.push(Addressed {
         to,
         control: Control::Notice { list },
     })?;
@@ -193,39 +195,31 @@ fn add_controls(alloc: Global, trace: &mut Trace) -> Result<(), Fail> {
     links.push(LinkId(3))?;
     links.push(LinkId(2))?;
     let to = To::Node(NodeId(2));
-    decided.step.control.push(Addressed {
+    step.control.push(Addressed {
         to,
         control: Control::DropLinks { links },
     })?;
-    trace.push(decided)?;
+    trace.push(did(Event::Decide, step.keep(alloc)?))?;
     Ok(())
 }
 
 // What is lost, stops or is cut, with the outcomes that are left.
-fn add_losses(alloc: Global, trace: &mut Trace) -> Result<(), Fail> {
+fn add_losses(trace: &mut Trace) -> Result<(), Fail> {
     let link = LinkId(1);
     let node = NodeId(3);
     let next = Ts(281474976710655);
     trace.push(happened(
-        alloc,
         Event::Lose { link, place: 0 },
         Took::Nothing,
         Outcome::NoItem,
     ))?;
     trace.push(happened(
-        alloc,
         Event::ControlLose { place: 1 },
         Took::Nothing,
         Outcome::Ignored,
     ))?;
+    trace.push(happened(Event::Crash { node }, Took::Nothing, Outcome::Crashed))?;
     trace.push(happened(
-        alloc,
-        Event::Crash { node },
-        Took::Nothing,
-        Outcome::Crashed,
-    ))?;
-    trace.push(happened(
-        alloc,
         Event::Cut { link },
         Took::Nothing,
         Outcome::ClockEnd { next },
@@ -275,7 +269,7 @@ fn each_kind_of_line(rt: HostRuntime) -> Result<(), Fail> {
     add_ticks(alloc, &mut trace)?;
     add_takes(alloc, &mut trace)?;
     add_controls(alloc, &mut trace)?;
-    add_losses(alloc, &mut trace)?;
+    add_losses(&mut trace)?;
     let text = print_trace(alloc, &star_names(alloc)?, 2, &trace)?;
     assert_eq!(rt; text.as_slice(), TEXT.as_bytes());
     Ok(())

@@ -4,4 +4,4 @@ use Rattle.pipe_base.specs.Messages.{AreBelow}
 use Rattle.pipe_host.proofs.times.deliver.Given as goal
 
 abbrev pub invariant-entries : goal.invariant-entries
-invariant-entries l = AreBelow l.fn.barrier.0 l.entry-items → max l.clock.next.0 (after_logged (drop l.entry-index l.entry-items)) ≡ max l.initial.clock.next.0 (after_logged l.entry-items)
+invariant-entries l = AreBelow l.fn.barrier.0 l.logged → max l.clock.next.0 (after_logged (drop l.entry-index l.logged)) ≡ max l.initial.clock.next.0 (after_logged l.logged)

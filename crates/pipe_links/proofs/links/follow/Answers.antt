@@ -1,5 +1,10 @@
-use Rattle.std.proofs.Common.{sym, ◌∙◌}
+use Rattle.std.proofs.Common.{List, ◌∷◌, subst, sym, ◌∙◌}
+use Rattle.pipe_base.specs.declared.name.LinkId.{LinkId}
+use Rattle.pipe_base.specs.declared.name.Ts.{Ts}
 use Rattle.pipe_base.specs.Graph.{ins_of}
+use Rattle.pipe_base.specs.Moment.{with_downed}
+use Rattle.pipe_base.specs.Silence.{Ticked}
+use Rattle.pipe_barrier.specs.InLinks.{Stands}
 use Rattle.pipe_model.specs.Moments.{moments_of, quiet_calls, received}
 use Rattle.pipe_links.proofs.Follows.{none_from, receipt_from, received_follows, tick_follows}
 use Rattle.pipe_links.proofs.links.follow.Goals as goal
@@ -16,4 +21,5 @@ returns-in-Some-tick_of c = λ graph node own stands comes step.
     let r = c.args.«record».now in
     tick_follows graph node own r c.in-Some-tick_of.now c.tick.new.self step (none_from (received own r) (c.in-None.ensures graph node own stands comes))
     (sym c.in-Some-tick_of.ensures)
-    (c.tick.ensures (ins_of graph node) graph.patience (moments_of own) (quiet_calls own) stands)
+    (subst (λ (marks : List (LinkId × Ts)). Stands (ins_of graph node) graph.patience c.tick.new.self (with_downed marks (moments_of own)) (Ticked c.in-Some-tick_of.now.0 ∷ quiet_calls own))
+    c.downed.ensures (c.tick.ensures (ins_of graph node) graph.patience (moments_of own) (quiet_calls own) stands))

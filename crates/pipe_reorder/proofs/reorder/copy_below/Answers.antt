@@ -17,12 +17,12 @@ pub entries-preserved : goal.entries-preserved
 entries-preserved c =
     let m : Key × List ℕ = (c.in-Some.key.now, c.in-Some.body.now) in
     let first = c.in-Some.ensures.steps in
-    let pushed : c.push.new.self ≡ c.entries.out ++ (c.args.service, entry_of m) ∷ [] =
-    c.in_ok-push.ensures.ok
+    let pushed : c.add.new.out ≡ c.entries.out ++ (c.args.service, entry_of m) ∷ [] =
+    c.in_ok-add.ensures.ok
     ∙ ap (λ (body : List ℕ). c.entries.out ++ (c.args.service, entry_of (c.in-Some.key.now, body)) ∷ []) c.in_ok-body.ensures in
     record {
       order = (subst IsInOrder first c.entries.invariant.order).1;
-      copied = copied_more c.args.service c.args.barrier.0 c.args.held.now.entries c.entries.key-iterator c.next.new.self m c.args.out.now c.entries.out c.push.new.self
+      copied = copied_more c.args.service c.args.barrier.0 c.args.held.now.entries c.entries.key-iterator c.next.new.self m c.args.out.now c.entries.out c.add.new.out
           first c.if-key-barrier.false pushed c.entries.invariant.copied;
     }
 

@@ -8,8 +8,8 @@ use Rattle.pipe_world.proofs.happen.pass_by.Goals as goal
 
 pub returns-in-Ok-clause-ok : goal.returns-in-Ok-clause-ok
 returns-in-Ok-clause-ok c =
-    let quiet : record { event = c.args.event; took = Nothing; step = record c.new-step.result { outcome = c.args.outcome } } ≡ quiet_record c.args.event c.args.outcome =
-    ap (λ (s : Step). record { event = c.args.event; took = Nothing; step = record s { outcome = c.args.outcome } }) c.new-step.ensures in
+    let quiet : record { event = c.args.event; took = Nothing; step = c.quiet.result } ≡ quiet_record c.args.event c.args.outcome =
+    ap (λ (s : Step). record { event = c.args.event; took = Nothing; step = s }) c.quiet.ensures in
     record {
       appended = c.in-Ok.ensures.ok ∙ ap (λ (s : Record). c.args.history.now ++ s ∷ []) quiet;
       queues_stand = λ graph past stands. subst (λ (s : Record). Stand graph c.enter.new.queues (s ∷ past)) quiet (c.in-Ok.ensures.queues_ok graph past stands);

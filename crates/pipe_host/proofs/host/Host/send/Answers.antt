@@ -2,11 +2,12 @@ use Rattle.std.proofs.Common.{◌≡◌, ℕ, ◌∷◌, ap, sym, subst, ◌∙�
 use Rattle.pipe_base.specs.declared.message.Service.{Service}
 use Rattle.pipe_base.specs.declared.name.HostId.{HostId}
 use Rattle.pipe_base.specs.declared.name.NodeId.{NodeId}
+use Rattle.pipe_base.specs.declared.step.Step.{Step}
 use Rattle.pipe_model.specs.declared.event.Event.TheVariants.{Send}
 use Rattle.pipe_model.specs.declared.record.Record.{Record}
 use Rattle.pipe_model.specs.declared.record.Took.TheVariants.{Nothing}
 use Rattle.pipe_model.specs.Run.{IsNodeStep}
-use Rattle.pipe_host.specs.Host.{Stands, Works}
+use Rattle.pipe_host.specs.Host.{Stands, Works, Does}
 use Rattle.pipe_host.proofs.host.Host.send.Goals as goal
 
 pub returns-clause-ok : goal.returns-clause-ok
@@ -18,7 +19,8 @@ returns-clause-ok c = λ graph host own stands.
     subst (λ (s : Service). Works graph host.0 own (record { event = Send host s c.args.now c.args.dests; took = Nothing; step = c.in_ok-worked.worked }) c.args.self.now) (sym c.requires.built)
     (c.in_ok-worked.ensures graph host own stands) in
     let rules : IsNodeStep graph host.0 own (sent me) = subst (λ (h : HostId). IsNodeStep graph host.0 own (sent h)) (sym me_is) works.rules in
-    record {
+    subst (λ (s : Step). Does graph host.0 own (record { event = Send host c.args.service c.args.now c.args.dests; took = Nothing; step = s }) c.follow.new.self) (sym c.into_step.ensures)
+    (record {
       rules = works.rules;
       stands = subst (λ (h : HostId). Stands graph host.0 (sent h ∷ own) c.follow.new.self) me_is (c.follow.ensures graph host.0 own works.stands tt rules);
-    }
+    })

@@ -1,4 +1,6 @@
-use Rattle.std.proofs.Common.{false}
+use Rattle.std.proofs.Common.{false, sym, subst}
+use Rattle.pipe_base.specs.declared.step.Step.{Step}
+use Rattle.pipe_host.specs.Host.{Does, taken}
 use Rattle.pipe_host.proofs.host.Host.take.Goals as goal
 
 -- the place and what is kept make no difference to what the host keeps
@@ -7,7 +9,8 @@ returns-clause-ok c = λ graph node own place keep stands comes.
     let works = c.in_ok-worked.ensures.ok graph node own 0 false stands comes in
     let after = c.follow.ensures graph node own works.stands comes works.rules in
     let links = after.links_are in
-    record {
+    subst (λ (s : Step). Does graph node own (taken c.args.link c.args.packet place keep s) c.follow.new.self) (sym c.into_step.ensures)
+    (record {
       rules = (c.in_ok-worked.ensures.ok graph node own place keep stands comes).rules;
       stands = record {
         host = after.host;
@@ -22,4 +25,4 @@ returns-clause-ok c = λ graph node own place keep stands comes.
         held_is = after.held_is;
         none_begun = after.none_begun;
       };
-    }
+    })

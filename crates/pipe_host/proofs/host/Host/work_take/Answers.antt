@@ -30,7 +30,7 @@ returns-then-not-is_up-clause-ok c = λ graph node own place keep stands comes.
     ∙ c.if-not-is_up.true in
     let r : Record = taken link p place keep (quiet_step Ignored) in
     let same : held BestEffort graph node (r ∷ own) ≡ held BestEffort graph node own = still_held graph node own r (taken_ignored (moments_of own) link p place keep down) in
-    subst (λ (s : Step). Works graph node own (taken link p place keep (record s { outcome = Ignored })) c.args.self.now) (sym c.new-step.ensures)
+    subst (λ (s : Step). Works graph node own (taken link p place keep s) c.args.self.now) (sym c.quiet.ensures)
     (record {
       rules = ignores graph node own link p place keep stands.host down;
       stands = record {

@@ -1,11 +1,14 @@
-use Rattle.std.proofs.Common.{false}
+use Rattle.std.proofs.Common.{false, sym, subst}
+use Rattle.pipe_base.specs.declared.step.Step.{Step}
+use Rattle.pipe_switch.specs.Half.{Does, taken}
 use Rattle.pipe_switch.proofs.half.Half.take.Goals as goal
 
 -- the place and what is kept make no difference to what the half keeps
 pub returns-clause-ok : goal.returns-clause-ok
 returns-clause-ok c = λ graph node own place keep stands comes.
     let after = c.follow.ensures graph node own stands.links_are comes (c.in_ok-work_take.ensures graph node own 0 false stands comes) in
-    record {
+    subst (λ (s : Step). Does graph node own (taken c.args.link c.args.packet place keep s) (record c.args.self.now { links = c.follow.new.self })) (sym c.into_step.ensures)
+    (record {
       rules = c.in_ok-work_take.ensures graph node own place keep stands comes;
       stands = record {
         half = stands.half;
@@ -17,4 +20,4 @@ returns-clause-ok c = λ graph node own place keep stands comes.
           no_drops = after.no_drops;
         };
       };
-    }
+    })

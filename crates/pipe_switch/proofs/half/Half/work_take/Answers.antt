@@ -1,13 +1,12 @@
 use Rattle.std.proofs.Common.{◌≡◌, ℕ, Bool, true, false, List, sym, subst, ◌∙◌}
 use Rattle.std.proofs.lemmas.Result.{IfOk-weaker}
-use Rattle.pipe_base.specs.declared.step.Outcome.TheVariants.{Ignored}
 use Rattle.pipe_base.specs.declared.step.Step.{Step}
 use Rattle.pipe_base.specs.Graph.{Graph, ins_of}
 use Rattle.pipe_base.specs.Moment.{has_link, is_up}
 use Rattle.pipe_model.specs.declared.record.Record.{Record}
 use Rattle.pipe_model.specs.Moments.{moments_of}
 use Rattle.pipe_model.specs.Run.{IsNodeStep}
-use Rattle.pipe_switch.specs.Half.{IsPassing, Stands, taken}
+use Rattle.pipe_switch.specs.Half.{Stands, taken}
 use Rattle.pipe_switch.proofs.HalfSteps.{ignores, passes, up_from}
 use Rattle.pipe_switch.proofs.half.Half.work_take.Goals as goal
 
@@ -16,18 +15,20 @@ returns-then-not-is_up c = λ graph node own place keep stands comes.
     let down : is_up (moments_of own) c.args.link.0 ≡ false =
     up_from c.is_up.result (has_link c.args.link.0 (ins_of graph node)) (is_up (moments_of own) c.args.link.0) (c.is_up.ensures graph node own stands.links_are) comes
     ∙ c.if-not-is_up.true in
-    subst (λ (s : Step). IsNodeStep graph node own (taken c.args.link c.args.packet.now place keep (record s { outcome = Ignored }))) (sym c.new-step.ensures)
+    subst (λ (s : Step). IsNodeStep graph node own (taken c.args.link c.args.packet.now place keep s)) (sym c.quiet.ensures)
     (ignores graph node own c.args.link c.args.packet.now place keep stands.half down)
 
 pub returns : goal.returns
 returns c =
-    IfOk-weaker c.pass_on.result (IsPassing c.args.self.now c.args.link c.args.packet.now)
+    let step : Step = c.in_ok-step.step in
+    let passing = c.in_ok-step.ensures in
+    IfOk-weaker c.keep.result (λ (kept : Step). kept ≡ step)
     (λ (step : Step). (graph : Graph) (node : ℕ) (own : List Record) (place : ℕ) (keep : Bool) → Stands graph node own c.args.self.now
     → has_link c.args.link.0 (ins_of graph node) ≡ true → IsNodeStep graph node own (taken c.args.link c.args.packet.now place keep step))
-    (λ step passing graph node own place keep stands comes.
+    (λ kept is graph node own place keep stands comes.
     let up : is_up (moments_of own) c.args.link.0 ≡ true =
     up_from c.is_up.result (has_link c.args.link.0 (ins_of graph node)) (is_up (moments_of own) c.args.link.0) (c.is_up.ensures graph node own stands.links_are) comes
     ∙ c.if-not-is_up.false in
-    passes graph node own c.args.link c.args.packet.now place keep passing.barriers step stands.half stands.links_are.no_drops up
-    (passing.barriers_are graph node own stands.links_are) (passing.step_is graph node own stands.links_are))
-    c.pass_on.ensures
+    passes graph node own c.args.link c.args.packet.now place keep passing.barriers kept stands.half stands.links_are.no_drops up
+    (passing.barriers_are graph node own stands.links_are) (is ∙ passing.step_is graph node own stands.links_are))
+    c.keep.ensures

@@ -1,20 +1,30 @@
-use Rattle.std.proofs.Common.{List, ap, ◌∙◌}
+use Rattle.std.proofs.Common.{◌≡◌, List, ap, ◌∙◌}
+use Rattle.std.proofs.lemmas.Result.{IfOk-weaker}
 use Rattle.pipe_base.specs.declared.name.LinkId.{LinkId}
+use Rattle.pipe_base.specs.declared.name.NodeId.{NodeId}
 use Rattle.pipe_base.specs.declared.step.Outcome.TheVariants.{Ok}
 use Rattle.pipe_base.specs.declared.step.Step.{Step}
+use Rattle.pipe_base.specs.Graph.{Graph}
 use Rattle.pipe_base.specs.Packets.{Fields}
 use Rattle.pipe_base.specs.Step.{quiet_step}
 use Rattle.pipe_base.specs.Ways.{with_beacons}
+use Rattle.pipe_model.specs.declared.record.Record.{Record}
+use Rattle.pipe_model.specs.Run.{IsNodeStep}
+use Rattle.pipe_switch.specs.Half.{Stands, ticked}
 use Rattle.pipe_switch.proofs.HalfSteps.{ticks}
 use Rattle.pipe_switch.proofs.half.Half.work_tick.Goals as goal
 
 pub returns : goal.returns
-returns c = λ graph node own stands.
+returns c =
     let b = c.in_ok-barriers.barriers in
     let marks = c.in_ok-step.field-0 in
     let f : Fields = record { be = b.be.0; commit = b.commit.0 } in
-    ticks graph node own c.args.now marks b c.put_beacons.new.step stands.half stands.links_are.no_drops
+    IfOk-weaker c.keep.result (λ (kept : Step). kept ≡ c.put_beacons.new.step)
+    (λ (kept : Step). (graph : Graph) (node : NodeId) (own : List Record) → Stands graph node.0 own c.args.self.now → IsNodeStep graph node.0 own (ticked node c.args.now kept))
+    (λ kept is graph node own stands.
+    ticks graph node own c.args.now marks b kept stands.half stands.links_are.no_drops
     (c.in_ok-step.ensures graph node.0 own stands.links_are) (c.in_ok-barriers.ensures graph node.0 own stands.links_are)
-    (c.in_ok-put_beacons.ensures.ok
+    (is ∙ c.in_ok-put_beacons.ensures.ok
     ∙ ap (λ (s : Step). with_beacons c.args.self.now.links.outs f (record s { downed = marks })) c.new-step.ensures
-    ∙ ap (λ (ls : List LinkId). with_beacons ls f (record (quiet_step Ok) { downed = marks })) stands.links_are.outs_are)
+    ∙ ap (λ (ls : List LinkId). with_beacons ls f (record (quiet_step Ok) { downed = marks })) stands.links_are.outs_are))
+    c.keep.ensures
