@@ -189,11 +189,11 @@ map_where f false s ss = refl
 abbrev kept_among : List SenderCall → List Scattering → List Preparation
 kept_among calls ss = map (kept_of calls) (filter (is_left calls) ss)
 
-where_more : (c : SenderCall) (calls : List SenderCall) (s : Scattering) (ss : List Scattering) (left : List Preparation) (ts host : ℕ)
+where_more : (c : SenderCall) (calls : List SenderCall) (s : Scattering) (ss : List Scattering) (ts host : ℕ)
     → (if is_left (c ∷ calls) s then kept_of (c ∷ calls) s ∷ kept_among (c ∷ calls) ss else kept_among (c ∷ calls) ss)
     ≡ after_ack ts host (if is_left calls s then kept_of calls s ∷ kept_among calls ss else kept_among calls ss)
     → kept_among (c ∷ calls) (s ∷ ss) ≡ after_ack ts host (kept_among calls (s ∷ ss))
-where_more c calls s ss left ts host is =
+where_more c calls s ss ts host is =
     map_where (kept_of (c ∷ calls)) (is_left (c ∷ calls) s) s (filter (is_left (c ∷ calls)) ss) ∙ is
     ∙ ap (after_ack ts host) (sym (map_where (kept_of calls) (is_left calls s) s (filter (is_left calls) ss)))
 
@@ -236,14 +236,14 @@ ack_one : (ts host : ℕ) (calls : List SenderCall) (s : Scattering) (ss : List 
 ack_one ts host calls s ss true is above was were rest =
     let marks = kept_marked calls ts host s is was in
     let others = All-weaker (λ (t : Scattering). s.ts.0 < t.ts.0) (λ (t : Scattering). (t.ts.0 == ts) ≡ false) (λ (t : Scattering) lt. others_above ts s.ts.0 t.ts.0 is lt) ss above in
-    where_more (Acked ts host) calls s ss (kept_among calls ss) ts host
+    where_more (Acked ts host) calls s ss ts host
     (step_same (kept_of calls s) (kept_of (Acked ts host ∷ calls) s) (is_left calls s) (is_left (Acked ts host ∷ calls) s) (kept_among (Acked ts host ∷ calls) ss) (kept_among calls ss) ts host
     is marks (left_is (Acked ts host ∷ calls) s ∙ ap is_open marks) (gone_stays (Acked ts host) calls s)
     (none_here ts host calls (filter (is_left calls) ss) (All-filter _ (λ (t : Scattering). (t.ts.0 == ts) ≡ false) ss others))
     (none_after ts host calls ss others were))
 ack_one ts host calls s ss false is above was were rest =
     let same = kept_other calls ts host s is was in
-    where_more (Acked ts host) calls s ss (kept_among calls ss) ts host
+    where_more (Acked ts host) calls s ss ts host
     (step_other (kept_of calls s) (kept_of (Acked ts host ∷ calls) s) (is_left calls s) (is_left (Acked ts host ∷ calls) s) (kept_among (Acked ts host ∷ calls) ss) (kept_among calls ss) ts host
     is same (left_is (Acked ts host ∷ calls) s ∙ ap is_open same ∙ sym (left_is calls s)) rest)
 

@@ -1,5 +1,5 @@
 // One mark for each receiver of a scattering.
-ghost use Rattle.std.specs.Prelude.{◌≡◌, ◌==◌, ◌&&◌, ◌≤◌, length, map, not, take, false, zip};
+ghost use Rattle.std.specs.Prelude.{◌≡◌, ◌==◌, ◌&&◌, ◌≤◌, length, not, take, zip};
 ghost use Rattle.std.specs.List.{list_any};
 ghost use Rattle.pipe_base.specs.Limits.{most_receivers};
 ghost use Rattle.pipe_relsend.specs.Preparation.{marked};

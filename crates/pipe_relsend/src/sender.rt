@@ -1,5 +1,5 @@
 // The sender: the reliable scatterings of one host that are not settled.
-ghost use Rattle.std.specs.Prelude.{◌≡◌, ◌<◌, ◌≤◌, ◌+◌, ◌-◌, ◌*◌, ◌^◌, ◌↔◌, ◌++◌, ◌∷◌, [], ℕ, List, length, flat_map, insert, vec_len, vec_capacity, IfErr, IfOk, IfSome, IsOk, MatchOption, OnErr, OnOk, All, ◌≢◌};
+ghost use Rattle.std.specs.Prelude.{◌≡◌, ◌<◌, ◌≤◌, ◌+◌, ◌-◌, ◌^◌, ◌↔◌, ◌++◌, ◌∷◌, [], ℕ, List, length, flat_map, insert, vec_len, vec_capacity, IfErr, IfOk, IsOk, MatchOption, OnErr, OnOk, All, ◌≢◌};
 ghost use Rattle.pipe_base.specs.Limits.{most_receivers, most_unsettled};
 ghost use Rattle.pipe_base.specs.Promise.{promise_of};
 ghost use Rattle.pipe_base.specs.Resends.{resends};
@@ -103,7 +103,8 @@ impl Sender {
         ack_among(&mut self.pending, ts, host);
     }
 
-    /// The least timestamp of a scattering that is not settled, or `next` where there is none. Takes no memory.
+    /// The least timestamp of a scattering that is not settled, or `next` where there is none. So with a stamp for `next` it is
+    /// the promise once a scattering under that stamp is begun. Takes no memory.
     pub fn promise(&self, next: Ts) -> Ts
         ensures value { result.0 ≡ first_or next.0 self.now }
         ensures stands { (calls : List SenderCall) → Stands calls self.now → result.0 ≡ promise_of next.0 calls }

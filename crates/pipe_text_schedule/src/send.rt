@@ -9,14 +9,11 @@ ghost use Rattle.pipe_text_schedule.specs.Tick.{reading_of};
 
 use crate::name::host_named;
 use crate::receivers::read_receivers;
-use pipe_base::{LAST_STAMP, NoMemory, Service, Ts};
+use pipe_base::{LAST_STAMP, NoMemory, RECEIVER_LIMIT, Service, Ts};
 use pipe_model::Event;
 use pipe_text::{LineKind, read_number};
 use pipe_topo::{Names, Topology};
 use std::alloc::Global;
-
-// The most receivers of a send.
-const RECEIVER_LIMIT: usize = 16;
 
 /// `send HOST best READING HOST=BODY ..`, by the words after the verb.
 pub fn read_send(
