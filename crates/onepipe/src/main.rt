@@ -16,6 +16,7 @@ use pipe_base::{List, Sink, Source};
 use pipe_cli::{Status, Words, exit_number, run};
 use std::alloc::Global;
 use std::env::Args;
+use std::mem::forget;
 use std::process::ExitCode;
 use std::rt::Env;
 use std::{env, io};
@@ -68,6 +69,8 @@ fn ended<S: Source, K: Sink>(
     match words {
         Ok(words) => {
             let outcome = run(rt.alloc(), &words, source, sink);
+            // The process ends, and all its memory with it: the trace is not freed block by block.
+            forget(outcome.trace);
             told(rt, outcome.status)
         }
         Err(fault) => told(rt, status_without_words(&fault)),

@@ -30,6 +30,15 @@ impl Register {
         }
     }
 
+    /// Takes over a change of an in-link, of this or another.
+    pub fn change(&mut self, link: LinkId, change: Change)
+        ensures { self.new ≡ register_after link change self.old }
+    {
+        if link.0 == self.link.0 {
+            *self = self.after(link, change);
+        }
+    }
+
     /// The register after a change of an in-link, of this or another.
     pub fn after(self, link: LinkId, change: Change) -> Register
         ensures { result ≡ register_after link change self }

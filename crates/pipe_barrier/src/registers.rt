@@ -195,7 +195,7 @@ fn change_all(links: &mut [Register], barriers: Barriers, link: LinkId, change: 
     let mut be = None;
     let mut commit = None;
     'links: for register in links.iter_mut() {
-        *register = register.after(link, change);
+        register.change(link, change);
         be = lower(be, register.up, register.be);
         commit = lower(commit, register.kept, register.commit);
     }

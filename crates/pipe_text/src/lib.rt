@@ -15,7 +15,7 @@ pub use line::next_line;
 pub use log::{print_body, print_log_head, print_log_line, service_word};
 pub use number::{numbers_are_as_printed, read_number};
 use pipe_base::List;
-pub use word::{is_skipped, words_of};
+pub use word::{is_skipped, read_words, words_of};
 
 /// A text, as its bytes.
 pub type Text = List<u8>;

@@ -10,7 +10,7 @@ ghost use Rattle.pipe_text_schedule.specs.Schedule.{schedule_of};
 use crate::event::read_event;
 use pipe_base::{List, NoMemory};
 use pipe_model::{Event, EventList};
-use pipe_text::{LineKind, is_skipped, next_line, words_of};
+use pipe_text::{LineKind, is_skipped, next_line, read_words};
 use pipe_topo::{Names, Topology};
 use std::alloc::Global;
 
@@ -47,11 +47,12 @@ pub fn read_schedule(
     ensures fault { (line : ℕ) (kind : Kind) → result ≡ Err (ScheduleFault.Line line kind) → schedule_of topology.now names.now first (lines text.now) ≡ Err (line, kind) }
 {
     let mut events = List::new(alloc);
+    let mut words = Vec::new(alloc);
     let mut rest = text;
     let mut line = first;
     'lines: while !rest.is_empty() {
         let (next, after) = next_line(rest);
-        let event = match read_line(alloc, names, topology, next, line) {
+        let event = match read_line(alloc, names, topology, &mut words, next, line) {
             Ok(event) => event,
             Err(fault) => return Err(fault),
         };
@@ -72,12 +73,14 @@ fn add(events: &mut EventList, event: Option<Event>) -> Result<(), NoMemory>
     }
 }
 
-// The event of the line with this number. None where the line is skipped.
-fn read_line(
+// The event of the line with this number. None where the line is skipped. The words are those of the line before, and then
+// of this one.
+fn read_line<'a>(
     alloc: Global,
     names: &Names,
     topology: &Topology,
-    text: &[u8],
+    words: &mut Vec<&'a [u8]>,
+    text: &'a [u8],
     line: u32,
 ) -> Result<Option<Event>, ScheduleFault>
     ensures event { IfOk result (λ event. IfSome event (λ e. (is_skipped (words_of text.now) ≡ false) × (line_event topology.now names.now (words_of text.now) ≡ Ok e))) }
@@ -85,11 +88,12 @@ fn read_line(
     ensures skipped { IfOk result (λ event. IfNone event (is_skipped (words_of text.now) ≡ true)) }
     ensures fault { (at : ℕ) (kind : Kind) → result ≡ Err (ScheduleFault.Line at kind) → (at ≡ line) × ((is_skipped (words_of text.now) ≡ false) × (line_event topology.now names.now (words_of text.now) ≡ Err kind)) }
 {
-    let words = words_of(alloc, text)?;
-    if is_skipped(&words) {
+    read_words(words, text)?;
+    let words = words.as_slice();
+    if is_skipped(words) {
         return Ok(None);
     }
-    match read_event(alloc, names, topology, &words)? {
+    match read_event(alloc, names, topology, words)? {
         Ok(event) => Ok(Some(event)),
         Err(kind) => Err(ScheduleFault::Line { line, kind }),
     }

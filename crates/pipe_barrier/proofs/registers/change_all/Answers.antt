@@ -19,9 +19,9 @@ links-preserved c =
     let i = c.links.register-index in
     let within : i < length ys = omega arith in
     record {
-      links_are = links_turn f xs ys i none c.after.result c.links-test.true within c.links.invariant.links_are c.after.ensures;
-      be_is = least_turn_in_place BestEffort f c.links.be c.lower-be.result xs ys i none c.after.result c.links-test.true c.links.invariant.links_are c.after.ensures c.lower-be.ensures ∙ c.links.invariant.be_is;
-      commit_is = least_turn_in_place Commit f c.links.commit c.lower-commit.result xs ys i none c.after.result c.links-test.true c.links.invariant.links_are c.after.ensures c.lower-commit.ensures ∙ c.links.invariant.commit_is;
+      links_are = links_turn f xs ys i none c.change.new.self c.links-test.true within c.links.invariant.links_are c.change.ensures;
+      be_is = least_turn_in_place BestEffort f c.links.be c.lower-be.result xs ys i none c.change.new.self c.links-test.true c.links.invariant.links_are c.change.ensures c.lower-be.ensures ∙ c.links.invariant.be_is;
+      commit_is = least_turn_in_place Commit f c.links.commit c.lower-commit.result xs ys i none c.change.new.self c.links-test.true c.links.invariant.links_are c.change.ensures c.lower-commit.ensures ∙ c.links.invariant.commit_is;
     }
 
 pub returns : goal.returns
