@@ -1,7 +1,7 @@
 // What no clause says: a clock's stamps worked out by hand, up to its end.
 
-use pipe_clock::{ClockEnd, HostClock};
 use pipe_base::{LAST_STAMP, Ts};
+use pipe_clock::{ClockEnd, HostClock};
 use std::test::Fail;
 
 #[test]

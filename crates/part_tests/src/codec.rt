@@ -4,8 +4,8 @@
 ghost use Rattle.std.specs.Prelude.{◌≡◌};
 ghost use Rattle.pipe_codec.specs.Packet.{IsSendable};
 
-use pipe_codec::*;
 use pipe_base::{Body, BodyFault, HostId, Packet, PacketKind, Ts};
+use pipe_codec::*;
 use std::test::Fail;
 
 /// A plain packet of host 0 to host 1 with timestamp and barrier 10, commit barrier 11 and the body `hi`.

@@ -1,8 +1,8 @@
 // Who must go in three networks, by what was reported.
 ghost use Rattle.std.specs.Prelude.{◌≡◌, length, IfOk};
 
-use pipe_failtime::{doomed, failure_time, is_cut, useless};
 use pipe_base::{HostId, LinkId, List, NoMemory, Ts};
+use pipe_failtime::{doomed, failure_time, is_cut, useless};
 use pipe_topo::{CableEnd, HostSet, LinkSet, Plan, Reports, TopoFault, Topology};
 use std::alloc::Global;
 use std::process::Abort;

@@ -1,10 +1,10 @@
 // What no clause says: that calls succeed with ample memory, and the steps of one host worked out by hand from the rules.
 
-use pipe_host::Host;
 use pipe_base::{
     Body, Fate, HostId, LAST_BARRIER, LAST_STAMP, LinkId, List, NodeId, Outcome, Packet,
     PacketKind, Service, Step, Ts,
 };
+use pipe_host::Host;
 use pipe_topo::{Plan, Topology};
 use std::alloc::Global;
 use std::process::Abort;

@@ -1,8 +1,8 @@
 // What no clause says: that calls succeed with ample memory, and the life of scatterings worked out by hand from the rules.
 ghost use Rattle.std.specs.Prelude.{◌≡◌, length, IfOk};
 
-use pipe_relsend::{AckStep, Preparing, Sender, Window};
 use pipe_base::{Body, DestList, HostId, LinkId, List, NoMemory, Router, Step, Ts};
+use pipe_relsend::{AckStep, Preparing, Sender, Window};
 use std::alloc::Global;
 use std::test::Fail;
 

@@ -16,11 +16,7 @@ fn message(alloc: Global, ts: u64, src: u16) -> Result<Message, NoMemory> {
 }
 
 // The timestamps and senders that a barrier logs.
-fn passed(
-    alloc: Global,
-    held: &mut Reorder,
-    barrier: u64,
-) -> Result<Vec<(u64, u16)>, NoMemory> {
+fn passed(alloc: Global, held: &mut Reorder, barrier: u64) -> Result<Vec<(u64, u16)>, NoMemory> {
     let mut out = List::new(alloc);
     held.pass(Ts(barrier), &mut out)?;
     let mut keys = Vec::new(alloc);

@@ -1,7 +1,7 @@
 // Routes in a network of two ways, in a star and in a fat tree.
-use pipe_route::Routes;
 use CableEnd::{Host, Switch};
 use pipe_base::{HostId, LinkId, List, NoMemory, NodeId, Router, Ts};
+use pipe_route::Routes;
 use pipe_topo::{Cable, CableEnd, LinkSet, Plan, Topology};
 use std::alloc::Global;
 use std::process::Abort;

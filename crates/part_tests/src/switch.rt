@@ -1,7 +1,7 @@
 // What no clause says: that calls succeed with ample memory, and the steps of one half worked out by hand from the rules.
 
-use pipe_switch::Half;
 use pipe_base::{Body, HostId, LinkId, NoMemory, NodeId, Outcome, Packet, PacketKind, Step, Ts};
+use pipe_switch::Half;
 use pipe_topo::{Plan, Topology};
 use std::alloc::Global;
 use std::process::Abort;

@@ -1,8 +1,8 @@
 // Networks of known shape, each fault once, and sets and names. Tables hold numbers and texts, and the helpers promise
 // little, so that a test has few facts to carry.
 
-use pipe_topo::{CableEnd, HostSet, LinkSet, Names, Plan, TopoFault, Topology};
 use pipe_base::{HostId, LinkId, List, NoMemory, NodeId, Ts};
+use pipe_topo::{CableEnd, HostSet, LinkSet, Names, Plan, TopoFault, Topology};
 use std::alloc::{AllocError, Global};
 use std::process::Abort;
 

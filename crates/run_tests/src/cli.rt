@@ -1,9 +1,9 @@
 // The program over the forms in memory: worked inputs with their logs, refusals with their lines, faults of the outside.
 
-use pipe_cli::{Outcome, Status, Words, exit_number, run};
 use pipe_base::{
     LinkId, List, MemorySink, MemorySource, Packet, PacketKind, Size, SteadySink, SteadySource,
 };
+use pipe_cli::{Outcome, Status, Words, exit_number, run};
 use pipe_model::Record;
 use pipe_text::LineKind;
 use pipe_text_plan::{KeyName, PlanFault};

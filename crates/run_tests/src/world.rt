@@ -1,11 +1,11 @@
 // What no clause says: that worlds and steps succeed with ample memory, and traces worked out by hand from the rules.
 
-use pipe_world::World;
 use pipe_base::{
     Body, Fate, HostId, LAST_STAMP, LinkId, List, NodeId, Outcome, Packet, PacketKind, Service, Ts,
 };
 use pipe_model::{Event, Record, Took};
 use pipe_topo::{Plan, Topology};
+use pipe_world::World;
 use std::alloc::{AllocError, Global};
 use std::process::Abort;
 use std::test::Fail;

@@ -1,10 +1,10 @@
 // What no clause says: that reading succeeds where there is memory, and the first fault of each input as the formats give
 // it.
 
-use pipe_text_input::{Input, InputFault, read_input};
 use pipe_base::{LinkId, Ts};
 use pipe_model::Event;
 use pipe_text::LineKind;
+use pipe_text_input::{Input, InputFault, read_input};
 use pipe_text_plan::{KeyName, PlanFault};
 use pipe_topo::TopoFault;
 use std::alloc::Global;

@@ -1,8 +1,8 @@
 // The text of a small trace, as the format has it.
 
-use pipe_text_log::print_logs;
 use pipe_base::{Body, Entry, HostId, Key, LinkId, List, Service, Step, Ts};
 use pipe_model::{Event, Record, Took};
+use pipe_text_log::print_logs;
 use pipe_topo::{Names, Plan, Topology};
 use std::alloc::Global;
 use std::test::Fail;

@@ -1,10 +1,10 @@
 // What no clause says: that reading succeeds where there is memory, and the lines and their faults as the formats give
 // them.
 
-use pipe_text_schedule::{ScheduleFault, read_schedule};
 use pipe_base::Ts;
 use pipe_model::EventList;
 use pipe_text::LineKind;
+use pipe_text_schedule::{ScheduleFault, read_schedule};
 use pipe_topo::{Names, Plan, Topology};
 use std::alloc::Global;
 use std::process::Abort;

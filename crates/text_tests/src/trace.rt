@@ -1,11 +1,11 @@
 // What no clause says: that the calls succeed where there is memory, and the lines as the format gives them.
 
-use pipe_text_trace::{print_event, print_trace};
 use pipe_base::{
     Addressed, Announced, Body, Control, Entry, Fate, HostId, KeptStep, Key, LinkId, List, NodeId,
     Outcome, Packet, PacketKind, Service, Step, To, Ts,
 };
 use pipe_model::{Event, Record, Took, Trace};
+use pipe_text_trace::{print_event, print_trace};
 use pipe_topo::Names;
 use std::alloc::Global;
 use std::test::Fail;

@@ -1,9 +1,9 @@
 // What no clause says: that the calls succeed where there is memory, and the texts as the formats give them.
 
+use pipe_base::{NoMemory, Service, Ts};
 use pipe_text::{
     LineKind, next_line, print_log_head, print_log_line, read_body, read_number, words_of,
 };
-use pipe_base::{NoMemory, Service, Ts};
 use std::test::Fail;
 
 #[test]
