@@ -4,6 +4,7 @@ ghost use Rattle.std.specs.Prelude.{◌≡◌, length, IfOk};
 use pipe_base::{Body, DestList, HostId, LinkId, List, NoMemory, Router, Step, Ts};
 use pipe_relsend::{AckStep, Preparing, Sender, Window};
 use std::alloc::Global;
+use std::process::Abort;
 use std::test::Fail;
 
 /// A router that knows no way, so that a step counts what is owed.
@@ -106,7 +107,7 @@ fn is_prepared_by_its_last_receiver(rt: HostRuntime) -> Result<(), Fail> {
     match preparing.ack(HostId(5)) {
         AckStep::Still(preparing) => {
             acked = (preparing.acked(HostId(4)), preparing.acked(HostId(5)));
-            finish(preparing, HostId(4));
+            finish(&rt, preparing, HostId(4));
         }
         AckStep::Ready(prepared) => prepared.spend(),
     }
@@ -115,9 +116,9 @@ fn is_prepared_by_its_last_receiver(rt: HostRuntime) -> Result<(), Fail> {
 }
 
 /// Spends a scattering for which this is the last acknowledgement.
-fn finish(preparing: Preparing, last: HostId) {
+fn finish(rt: &impl Abort, preparing: Preparing, last: HostId) {
     match preparing.ack(last) {
-        AckStep::Still(preparing) => preparing.end(),
+        AckStep::Still(_unsettled) => rt.abort(),
         AckStep::Ready(prepared) => prepared.spend(),
     }
 }

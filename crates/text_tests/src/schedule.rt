@@ -38,7 +38,7 @@ fn events(rt: HostRuntime) -> Result<(), Fail> {
     let table: [(&[u8], &[u8]); 8] = [
         (
             b"send h0 best 10 h1=6869 h0=",
-            b"Send { host: HostId(0), service: BestEffort, now: Ts(10), dests: List { items: [(HostId(1), Body { bytes: [104, 105] }), (HostId(0), Body { bytes: [] })] } }",
+            b"Send { host: HostId(0), service: BestEffort, now: Ts(10), dests: List { items: [(HostId(1), Body { block: Some([104, 105]) }), (HostId(0), Body { block: None })] } }",
         ),
         (b"tick h1 0", b"Tick { node: NodeId(1), now: Ts(0) }"),
         (
