@@ -3,7 +3,9 @@ use Rattle.std.specs.Prelude.{ℕ, List, []}
 use Rattle.pipe_base.specs.declared.name.HostId.{HostId}
 use Rattle.pipe_base.specs.declared.name.Ts.{Ts}
 use Rattle.pipe_base.specs.declared.packet.Packet.{Packet}
-use Rattle.pipe_base.specs.declared.packet.PacketKind.TheVariants.{Beacon, Plain, Prepare, Recall}
+use Rattle.pipe_base.specs.declared.message.Service.{Service}
+use Rattle.pipe_base.specs.declared.message.Service.TheVariants.{BestEffort, Reliable}
+use Rattle.pipe_base.specs.declared.packet.PacketKind.TheVariants.{Ack, Beacon, Plain, Prepare, Recall}
 
 -- the two barriers of a packet
 pub record Fields : Type 0 where
@@ -22,6 +24,15 @@ message_to src ts f dest =
 -- a reliable message to one receiver of a scattering
 abbrev pub prepare_to : HostId → Ts → Fields → (HostId × List ℕ) → Packet
 prepare_to src ts f dest = record (message_to src ts f dest) { kind = Prepare }
+
+-- a message of a service to one receiver of a scattering
+abbrev pub sent_to : Service → HostId → Ts → Fields → (HostId × List ℕ) → Packet
+sent_to BestEffort src ts f dest = message_to src ts f dest
+sent_to Reliable src ts f dest = prepare_to src ts f dest
+
+-- a receiver's acknowledgement of a reliable message, to the sender of the message
+abbrev pub ack_to : HostId → Fields → Packet → Packet
+ack_to src f p = record { kind = Ack; src = src; dst = p.src; ts = p.ts; be = ts_of f.be; commit = ts_of f.commit; body = [] }
 
 -- the taking back of the reliable message to one receiver of a scattering
 abbrev pub recall_to : HostId → Ts → Fields → (HostId × List ℕ) → Packet

@@ -9,7 +9,7 @@ use Rattle.pipe_model.specs.declared.event.Event.{Event}
 use Rattle.pipe_model.specs.declared.event.Event.TheVariants.{Send}
 use Rattle.pipe_model.specs.declared.record.Record.{Record}
 use Rattle.pipe_model.specs.Clock.{next}
-use Rattle.pipe_model.specs.OwnOutcome.{send_outcome, stamped, where_ok}
+use Rattle.pipe_model.specs.OwnOutcome.{own_outcome, stamped, where_ok}
 
 stamp_where : (o : Outcome) (stamp : ℕ) (ts : Ts) → where_ok o stamp ≡ Some ts → stamp ≡ ts.0
 stamp_where Ok stamp ts is = cc
@@ -17,5 +17,6 @@ stamp_where _ stamp ts is = cc
 
 pub stamp_above : (graph : Graph) (node : ℕ) (own : List Record) (event : Event) (ts : Ts) → stamped graph node own event ≡ Some ts → next own ≤ ts.0
 stamp_above graph node own (Send host service now dests) ts is =
-    let same : stamp_at now.0 (next own) ≡ ts.0 = stamp_where (send_outcome now.0 (next own)) (stamp_at now.0 (next own)) ts is in omega arith
+    let same : stamp_at now.0 (next own) ≡ ts.0 =
+    stamp_where (own_outcome graph node own (Send host service now dests)) (stamp_at now.0 (next own)) ts is in omega arith
 stamp_above graph node own _ ts is = cc

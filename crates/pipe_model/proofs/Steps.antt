@@ -4,7 +4,7 @@ use Rattle.std.proofs.lemmas.Bool.Decides.{nat_tests}
 use Rattle.pipe_base.specs.declared.name.LinkId.{LinkId}
 use Rattle.pipe_base.specs.declared.packet.Packet.{Packet}
 use Rattle.pipe_base.specs.declared.message.Service.{Service}
-use Rattle.pipe_base.specs.declared.message.Service.TheVariants.{BestEffort}
+use Rattle.pipe_base.specs.declared.message.Service.TheVariants.{BestEffort, Reliable}
 use Rattle.pipe_base.specs.Graph.{Graph, is_half, is_host}
 use Rattle.pipe_base.specs.Moment.{Moment, is_up, with_received, with_downed}
 use Rattle.pipe_base.specs.ShortestRoute.{not_dropped}
@@ -62,10 +62,14 @@ holds_nothing service graph node [] other = refl
 holds_nothing service graph node (r ∷ own) other = let got : got service graph node own r ≡ None = got_nothing service graph node own r other in rw got (holds_nothing service graph node own other)
 
 pub no_fate : (graph : Graph) (node : ℕ) (own : List Record) (r : Record) → is_host graph node ≡ false → None ≡ fate graph node own r
-no_fate graph node own r other = let got : got BestEffort graph node own r ≡ None = got_nothing BestEffort graph node own r other in rw got refl
+no_fate graph node own r other =
+    let best : got BestEffort graph node own r ≡ None = got_nothing BestEffort graph node own r other in
+    let reliable : got Reliable graph node own r ≡ None = got_nothing Reliable graph node own r other in rw (best, reliable) refl
 
 pub no_log : (graph : Graph) (node : ℕ) (own : List Record) (r : Record) → is_host graph node ≡ false → [] ≡ logged graph node own r
-no_log graph node own r other = let none : held BestEffort graph node (r ∷ own) ≡ [] = holds_nothing BestEffort graph node (r ∷ own) other in rw none refl
+no_log graph node own r other =
+    let best : held BestEffort graph node (r ∷ own) ≡ [] = holds_nothing BestEffort graph node (r ∷ own) other in
+    let reliable : held Reliable graph node (r ∷ own) ≡ [] = holds_nothing Reliable graph node (r ∷ own) other in rw (best, reliable) refl
 
 no_tick_by : (past : List Moment) (event : Event) (took : Took) (q : ℕ × Packet) → received_of past event took ≡ Some q → tick_of event ≡ None
 no_tick_by past (Take link place keep) took q is = refl

@@ -1,21 +1,28 @@
 -- Which packets a node owes in a record, and the two barriers that they carry.
-use Rattle.std.specs.Prelude.{ℕ, ◌&&◌, not, if◌then◌else◌, List, [], ◌∷◌, ◌++◌, Option, None, Some, map, filter}
+use Rattle.std.specs.Prelude.{ℕ, ◌&&◌, if◌then◌else◌, List, [], ◌∷◌, ◌++◌, Option, None, Some, map, filter}
+use Rattle.pipe_base.specs.declared.message.Service.{Service}
+use Rattle.pipe_base.specs.declared.message.Service.TheVariants.{Reliable}
 use Rattle.pipe_base.specs.declared.name.HostId.{HostId}
 use Rattle.pipe_base.specs.declared.name.LinkId.{LinkId}
 use Rattle.pipe_base.specs.declared.name.Ts.{Ts}
 use Rattle.pipe_base.specs.declared.control.Addressed.{Addressed}
 use Rattle.pipe_base.specs.declared.packet.Packet.{Packet}
 use Rattle.pipe_base.specs.declared.packet.Plane.TheVariants as plane
-use Rattle.pipe_base.specs.Graph.{Graph, is_host, is_half, outs_of}
-use Rattle.pipe_base.specs.Packets.{Fields, message_to, forwarded, beacon}
+use Rattle.pipe_base.specs.declared.step.Fate.{Fate}
+use Rattle.pipe_base.specs.Fate.{is_holding}
+use Rattle.pipe_base.specs.Graph.{Graph, is_host, outs_of}
+use Rattle.pipe_base.specs.Packets.{Fields, ack_to, beacon, forwarded, sent_to}
+use Rattle.pipe_base.specs.Resends.{resends}
+use Rattle.pipe_base.specs.Scattering.{SenderCall}
 use Rattle.pipe_base.specs.ShortestRoute.{not_dropped, route}
 use Rattle.pipe_base.specs.Ways.{routed, lost}
 use Rattle.pipe_model.specs.declared.event.Event.{Event}
 use Rattle.pipe_model.specs.declared.event.Event.TheVariants.{Send, Tick, Take}
 use Rattle.pipe_model.specs.declared.record.Record.{Record}
 use Rattle.pipe_model.specs.Clock.{next, promise}
-use Rattle.pipe_model.specs.Got.{is_beacon}
+use Rattle.pipe_model.specs.Got.{carries, gets, is_beacon}
 use Rattle.pipe_model.specs.Moments.{received, barrier_at, known_drops}
+use Rattle.pipe_model.specs.Sender.{sender_calls}
 
 -- packets of a send promise its stamp, all others of a host its next timestamp
 abbrev pub host_be : Option Ts → ℕ → ℕ
@@ -29,24 +36,39 @@ fields graph node own r =
     else record { be = barrier_at plane.BestEffort graph node (r ∷ own); commit = barrier_at plane.Commit graph node (r ∷ own) }
 
 -- a send owes a message to each receiver, in listed order
-abbrev pub owed_by_send : HostId → Fields → List (HostId × List ℕ) → Option Ts → List Packet
-owed_by_send src f dests None = []
-owed_by_send src f dests (Some ts) = map (message_to src ts f) dests
+abbrev pub owed_by_send : Service → HostId → Fields → List (HostId × List ℕ) → Option Ts → List Packet
+owed_by_send service src f dests None = []
+owed_by_send service src f dests (Some ts) = map (sent_to service src ts f) dests
 
--- a half owes what it received, but no beacon; a host owes no answer yet
-abbrev pub owed_by_take : Graph → ℕ → Fields → Option (ℕ × Packet) → List Packet
-owed_by_take graph node f None = []
-owed_by_take graph node f (Some q) = if is_half graph node && not (is_beacon q.1.kind) then forwarded f q.1 ∷ [] else []
+-- a half owes what it received, but no beacon
+abbrev pub owed_by_half : Fields → Option (ℕ × Packet) → List Packet
+owed_by_half f None = []
+owed_by_half f (Some q) = if is_beacon q.1.kind then [] else forwarded f q.1 ∷ []
 
--- the packets that are to find a way
-abbrev pub owed_of : Graph → ℕ → Fields → Event → Option Ts → Option (ℕ × Packet) → List Packet
-owed_of graph node f (Send host service now dests) stamp received = owed_by_send host f dests stamp
-owed_of graph node f (Take link place keep) stamp received = owed_by_take graph node f received
-owed_of graph node f _ stamp received = []
+-- a host owes an acknowledgement of the reliable message that it got, where it holds the message
+abbrev pub owed_by_host : ℕ → Fields → Option Fate → Option Packet → List Packet
+owed_by_host host f fate None = []
+owed_by_host host f fate (Some p) = if carries Reliable p.kind && is_holding fate then ack_to (record { 0 = host }) f p ∷ [] else []
+
+-- what is owed for the packet that a take brings
+abbrev pub owed_by_take : Graph → ℕ → Fields → List Record → Record → List Packet
+owed_by_take graph node f own r =
+    if is_host graph node then owed_by_host node f r.step.fate (gets graph node own r) else owed_by_half f (received own r)
+
+-- a host owes the messages again that were not acknowledged
+abbrev pub owed_by_tick : Graph → ℕ → Fields → List SenderCall → List Packet
+owed_by_tick graph node f calls = if is_host graph node then resends calls (record { 0 = node }) f else []
+
+-- the packets that are to find a way, by the event
+abbrev pub owed_of : Graph → ℕ → Fields → List Record → Record → Event → List Packet
+owed_of graph node f own r (Send host service now dests) = owed_by_send service host f dests r.step.stamped
+owed_of graph node f own r (Tick n now) = owed_by_tick graph node f (sender_calls graph node (r ∷ own))
+owed_of graph node f own r (Take link place keep) = owed_by_take graph node f own r
+owed_of graph node f own r _ = []
 
 -- what the node owes in a record
 abbrev pub owed : Graph → ℕ → List Record → Record → List Packet
-owed graph node own r = owed_of graph node (fields graph node own r) r.event r.step.stamped (received own r)
+owed graph node own r = owed_of graph node (fields graph node own r) own r r.event
 
 -- a tick owes a beacon on each out-link that the node does not know as dropped, in rising number
 abbrev pub beacons_of : Graph → ℕ → List LinkId → Fields → Event → List (LinkId × Packet)
@@ -57,7 +79,7 @@ beacons_of graph node dropped f _ = []
 abbrev pub beacons : Graph → ℕ → List Record → Record → List (LinkId × Packet)
 beacons graph node own r = beacons_of graph node (known_drops (r ∷ own)) (fields graph node own r) r.event
 
--- what the record puts, in order: the owed packets that have a way, then the beacons
+-- what the record puts, in order: the owed packets that have a way, each on it, then the beacons
 abbrev pub put : Graph → ℕ → List Record → Record → List (LinkId × Packet)
 put graph node own r = routed (route graph (known_drops (r ∷ own)) node) (owed graph node own r) ++ beacons graph node own r
 

@@ -1,7 +1,6 @@
 -- Which events can happen: their names are those of the network, and their kind is one of those built so far.
 use Rattle.std.specs.Prelude.{ℕ, ◌<◌, ◌≤◌, List, length, All, AllPairs, ◌≢◌}
 use Rattle.pipe_base.specs.declared.name.HostId.{HostId}
-use Rattle.pipe_base.specs.declared.message.Service.TheVariants.{BestEffort, Reliable}
 use Rattle.pipe_base.specs.Graph.{Graph}
 use Rattle.pipe_base.specs.Limits.{last_stamp, most_receivers}
 use Rattle.pipe_model.specs.declared.event.Event.{Event}
@@ -30,10 +29,9 @@ IsOfGraph graph (Crash node) = node.0 < graph.nodes
 IsOfGraph graph (Cut link) = link.0 < length graph.links
 IsOfGraph graph _ = Unit {0}
 
--- what is built so far: best-effort sends, ticks, takes and losses of packets
+-- what is built so far: sends of both services, ticks, takes and losses of packets
 abbrev pub IsBuilt : Event → Type 0
-IsBuilt (Send host BestEffort now dests) = Unit {0}
-IsBuilt (Send host Reliable now dests) = ⊥
+IsBuilt (Send host service now dests) = Unit {0}
 IsBuilt (Tick node now) = Unit {0}
 IsBuilt (Take link place keep) = Unit {0}
 IsBuilt (Lose link place) = Unit {0}

@@ -1,5 +1,6 @@
 -- What becomes of the messages that a host gets, and what it holds.
 use Rattle.std.specs.Prelude.{ℕ, List, [], ◌∷◌, Option, None, Some}
+use Rattle.std.specs.Option.{option_or}
 use Rattle.pipe_base.specs.declared.message.Service.{Service}
 use Rattle.pipe_base.specs.declared.message.Service.TheVariants.{BestEffort, Reliable}
 use Rattle.pipe_base.specs.declared.packet.Packet.{Packet}
@@ -41,6 +42,6 @@ abbrev pub fate_in : Service → Graph → ℕ → List Record → Record → Op
 fate_in service graph node own r =
     fate_for (barrier_at (plane_of service) graph node own) (held service graph node own) (got service graph node own r)
 
--- the fate in a record: that of its best-effort message, as reliable ones are not built yet
+-- The fate in a record: that of the message that it brought, of whichever service.
 abbrev pub fate : Graph → ℕ → List Record → Record → Option Fate
-fate graph node own r = fate_in BestEffort graph node own r
+fate graph node own r = option_or (fate_in BestEffort graph node own r) (fate_in Reliable graph node own r)

@@ -2,10 +2,10 @@
 use Rattle.std.specs.Prelude.{ℕ, ◌==◌, ◌&&◌, not, if◌then◌else◌, Bool, true, false, List, Option, None, Some}
 use Rattle.pipe_base.specs.declared.message.Key.{Key}
 use Rattle.pipe_base.specs.declared.message.Service.{Service}
-use Rattle.pipe_base.specs.declared.message.Service.TheVariants.{BestEffort}
+use Rattle.pipe_base.specs.declared.message.Service.TheVariants.{BestEffort, Reliable}
 use Rattle.pipe_base.specs.declared.packet.Packet.{Packet}
 use Rattle.pipe_base.specs.declared.packet.PacketKind.{PacketKind}
-use Rattle.pipe_base.specs.declared.packet.PacketKind.TheVariants.{Beacon, Plain}
+use Rattle.pipe_base.specs.declared.packet.PacketKind.TheVariants.{Beacon, Plain, Prepare}
 use Rattle.pipe_base.specs.Graph.{Graph, is_host}
 use Rattle.pipe_model.specs.declared.record.Record.{Record}
 use Rattle.pipe_model.specs.Moments.{received}
@@ -19,13 +19,14 @@ abbrev pub gets_of : Graph → ℕ → Option (ℕ × Packet) → Option Packet
 gets_of graph node None = None
 gets_of graph node (Some q) = if is_host graph node && ((q.1.dst.0 == node) && not (is_beacon q.1.kind)) then Some q.1 else None
 
--- What a host gets in a record: a message, or later the answer to one.
+-- What a host gets in a record: a message, or the answer to one.
 abbrev pub gets : Graph → ℕ → List Record → Record → Option Packet
 gets graph node own r = gets_of graph node (received own r)
 
--- The packets that carry messages of a service. Reliable messages are not built yet.
+-- The packets that carry messages of a service. A packet carries at most one message.
 abbrev pub carries : Service → PacketKind → Bool
 carries BestEffort Plain = true
+carries Reliable Prepare = true
 carries _ _ = false
 
 abbrev pub message_of : Service → Option Packet → Option Packet

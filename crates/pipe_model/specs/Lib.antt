@@ -1,3 +1,4 @@
+pub mod Acknowledged
 pub mod Acting
 pub mod Clock
 pub mod Duties
@@ -7,12 +8,16 @@ pub mod Got
 pub mod Items
 pub mod Logged
 pub mod Marks
+pub mod MessagesSent
 pub mod Moments
 pub mod NeverLate
+pub mod NodePromise
 pub mod OnLink
 pub mod Order
 pub mod Outcome
 pub mod OwnOutcome
+pub mod Packets
+pub mod PreparedHeld
 pub mod Run
 pub mod Sender
 pub mod Waiting

@@ -15,9 +15,9 @@ passed_in service graph node own r =
     below_barrier (barrier_at (plane_of service) graph node (r ∷ own))
     (from_barrier (barrier_at (plane_of service) graph node own) (held service graph node (r ∷ own)))
 
--- what the record logs: best effort alone, as reliable messages are not built yet
+-- What the record logs: best effort first, then reliable, each by the barrier of its own plane.
 abbrev pub logged : Graph → ℕ → List Record → Record → List (Service × Entry)
-logged graph node own r = logged_of BestEffort (passed_in BestEffort graph node own r)
+logged graph node own r = logged_of BestEffort (passed_in BestEffort graph node own r) ++ logged_of Reliable (passed_in Reliable graph node own r)
 
 abbrev pub same_service : Service → Service → Bool
 same_service BestEffort BestEffort = true

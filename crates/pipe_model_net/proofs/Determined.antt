@@ -25,7 +25,7 @@ use Rattle.pipe_model_net.proofs.Acting.{IsNobodys, nobodys_or_own}
 abbrev of : Event → Took → Step → Record
 of e t s = record { event = e; took = t; step = s }
 
--- what a node owes is a function of the event, what was taken, the stamp, the marks and what was logged
+-- what a node owes is a function of the event, what was taken, the stamp, the fate, the marks and what was logged
 logged_same : (graph : Graph) (n : ℕ) (o : List Record) (e : Event) (t : Took) (a b : Step) → a.downed ≡ b.downed → a.dropped ≡ b.dropped
     → logged graph n o (of e t a) ≡ logged graph n o (of e t b)
 logged_same graph n o e t a b down drop =
@@ -33,20 +33,22 @@ logged_same graph n o e t a b down drop =
     ap (λ (d : List (LinkId × Ts)). f d a.dropped) down ∙ ap (λ (l : List LinkId). f b.downed l) drop
 
 put_same : (graph : Graph) (n : ℕ) (o : List Record) (e : Event) (t : Took) (a b : Step) → a.downed ≡ b.downed → a.dropped ≡ b.dropped
-    → a.stamped ≡ b.stamped → a.logged ≡ b.logged → put graph n o (of e t a) ≡ put graph n o (of e t b)
-put_same graph n o e t a b down drop stamp log =
-    let f : List (LinkId × Ts) → List LinkId → Option Ts → List (Service × Entry) → List (LinkId × Packet) =
-    λ d l s m. put graph n o (of e t (record a { downed = d; dropped = l; stamped = s; logged = m })) in
-    ap (λ (d : List (LinkId × Ts)). f d a.dropped a.stamped a.logged) down ∙ ap (λ (l : List LinkId). f b.downed l a.stamped a.logged) drop
-    ∙ ap (λ (s : Option Ts). f b.downed b.dropped s a.logged) stamp ∙ ap (λ (m : List (Service × Entry)). f b.downed b.dropped b.stamped m) log
+    → a.stamped ≡ b.stamped → a.fate ≡ b.fate → a.logged ≡ b.logged → put graph n o (of e t a) ≡ put graph n o (of e t b)
+put_same graph n o e t a b down drop stamp fate log =
+    let f : List (LinkId × Ts) → List LinkId → Option Ts → Option Fate → List (Service × Entry) → List (LinkId × Packet) =
+    λ d l s x m. put graph n o (of e t (record a { downed = d; dropped = l; stamped = s; fate = x; logged = m })) in
+    ap (λ (d : List (LinkId × Ts)). f d a.dropped a.stamped a.fate a.logged) down ∙ ap (λ (l : List LinkId). f b.downed l a.stamped a.fate a.logged) drop
+    ∙ ap (λ (s : Option Ts). f b.downed b.dropped s a.fate a.logged) stamp ∙ ap (λ (x : Option Fate). f b.downed b.dropped b.stamped x a.logged) fate
+    ∙ ap (λ (m : List (Service × Entry)). f b.downed b.dropped b.stamped b.fate m) log
 
 unrouted_same : (graph : Graph) (n : ℕ) (o : List Record) (e : Event) (t : Took) (a b : Step) → a.downed ≡ b.downed → a.dropped ≡ b.dropped
-    → a.stamped ≡ b.stamped → a.logged ≡ b.logged → unrouted graph n o (of e t a) ≡ unrouted graph n o (of e t b)
-unrouted_same graph n o e t a b down drop stamp log =
-    let f : List (LinkId × Ts) → List LinkId → Option Ts → List (Service × Entry) → ℕ =
-    λ d l s m. unrouted graph n o (of e t (record a { downed = d; dropped = l; stamped = s; logged = m })) in
-    ap (λ (d : List (LinkId × Ts)). f d a.dropped a.stamped a.logged) down ∙ ap (λ (l : List LinkId). f b.downed l a.stamped a.logged) drop
-    ∙ ap (λ (s : Option Ts). f b.downed b.dropped s a.logged) stamp ∙ ap (λ (m : List (Service × Entry)). f b.downed b.dropped b.stamped m) log
+    → a.stamped ≡ b.stamped → a.fate ≡ b.fate → a.logged ≡ b.logged → unrouted graph n o (of e t a) ≡ unrouted graph n o (of e t b)
+unrouted_same graph n o e t a b down drop stamp fate log =
+    let f : List (LinkId × Ts) → List LinkId → Option Ts → Option Fate → List (Service × Entry) → ℕ =
+    λ d l s x m. unrouted graph n o (of e t (record a { downed = d; dropped = l; stamped = s; fate = x; logged = m })) in
+    ap (λ (d : List (LinkId × Ts)). f d a.dropped a.stamped a.fate a.logged) down ∙ ap (λ (l : List LinkId). f b.downed l a.stamped a.fate a.logged) drop
+    ∙ ap (λ (s : Option Ts). f b.downed b.dropped s a.fate a.logged) stamp ∙ ap (λ (x : Option Fate). f b.downed b.dropped b.stamped x a.logged) fate
+    ∙ ap (λ (m : List (Service × Entry)). f b.downed b.dropped b.stamped b.fate m) log
 
 -- equal parts make equal steps
 parts_same : (a b : Step) → a.put ≡ b.put → a.control ≡ b.control → a.downed ≡ b.downed → a.dropped ≡ b.dropped → a.stamped ≡ b.stamped → a.fate ≡ b.fate
@@ -71,10 +73,10 @@ node_step_same graph n o e t a b sa sb out =
     let down : a.downed ≡ b.downed = sa.downed_is ∙ sym sb.downed_is in
     let drop : a.dropped ≡ b.dropped = sa.dropped_is ∙ sym sb.dropped_is in
     let stamp : a.stamped ≡ b.stamped = sa.stamped_is ∙ sym sb.stamped_is in
+    let fate : a.fate ≡ b.fate = sa.fate_is ∙ sym sb.fate_is in
     let log : a.logged ≡ b.logged = sa.logged_is ∙ logged_same graph n o e t a b down drop ∙ sym sb.logged_is in
-    parts_same a b (sa.put_is ∙ put_same graph n o e t a b down drop stamp log ∙ sym sb.put_is) (sa.control_is ∙ sym sb.control_is) down drop stamp
-    (sa.fate_is ∙ sym sb.fate_is) log (sa.noted_is ∙ sym sb.noted_is)
-    (sa.unrouted_is ∙ unrouted_same graph n o e t a b down drop stamp log ∙ sym sb.unrouted_is) out
+    parts_same a b (sa.put_is ∙ put_same graph n o e t a b down drop stamp fate log ∙ sym sb.put_is) (sa.control_is ∙ sym sb.control_is) down drop stamp fate log (sa.noted_is ∙ sym sb.noted_is)
+    (sa.unrouted_is ∙ unrouted_same graph n o e t a b down drop stamp fate log ∙ sym sb.unrouted_is) out
 
 step_same : (graph : Graph) (past : List Record) (e : Event) (t : Took) (a b : Step) → IsStep graph past (of e t a) → IsStep graph past (of e t b) → a ≡ b
 step_same graph past e t a b sa sb =

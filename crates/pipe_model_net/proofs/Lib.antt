@@ -1,10 +1,14 @@
+pub mod Acks
 pub mod Acting
+pub mod Begun
 pub mod Determined
 pub mod Events
 pub mod Genuine
 pub mod NeverLate
 pub mod Ordered
+pub mod Owed
 pub mod Packets
+pub mod Prepared
 pub mod Promised
 pub mod PutInOrder
 pub mod Puts

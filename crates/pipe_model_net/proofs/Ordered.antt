@@ -16,7 +16,7 @@ use Rattle.pipe_model.specs.Acting.{acts, is_idle, is_own, own}
 use Rattle.pipe_model.specs.Event.{IsOfGraph}
 use Rattle.pipe_model.specs.Moments.{moments_of, received}
 use Rattle.pipe_model.specs.NeverLate.{IsOfOldest}
-use Rattle.pipe_model.specs.OnLink.{best_received}
+use Rattle.pipe_model.specs.OnLink.{greatest_received}
 use Rattle.pipe_model.specs.Run.{IsStep}
 use Rattle.pipe_model.specs.Waiting.{waiting_on}
 use Rattle.pipe_model.proofs.Links.{comes_by}
@@ -25,7 +25,7 @@ use Rattle.pipe_model_net.proofs.Settled.{IsSettledBy, settled_first, settled_le
 
 -- no message that waits on the link is below a field that was received on it or waits before it
 abbrev pub IsSettled : Graph → ℕ → List Record → Type 0
-IsSettled graph link past = IsSettledBy (best_received graph link past) (waiting_on link past)
+IsSettled graph link past = IsSettledBy (greatest_received plane.BestEffort graph link past) (waiting_on link past)
 
 -- all links are settled
 abbrev pub AreSettled : Graph → List Record → Type 0
@@ -78,36 +78,36 @@ receipt graph past r node q step mine is =
 
 by_link : (b : Bool) (graph : Graph) (link : ℕ) (past : List Record) (r : Record) (q : ℕ × Packet) → (q.0 == link) ≡ b
     → received (own graph (head_of graph link) past) r ≡ Some q → slice_get (waiting_on q.0 past) 0 ≡ Some q.1 → IsSettled graph link past
-    → IsSettledBy (best_received graph link (r ∷ past)) (waiting_on link past)
+    → IsSettledBy (greatest_received plane.BestEffort graph link (r ∷ past)) (waiting_on link past)
 by_link true graph link past r q on is first settled =
-    let bound : ℕ = max (best_received graph link past) q.1.be.0 in
+    let bound : ℕ = max (greatest_received plane.BestEffort graph link past) q.1.be.0 in
     let here : slice_get (waiting_on link past) 0 ≡ Some q.1 = subst (λ (l : ℕ). slice_get (waiting_on l past) 0 ≡ Some q.1) (eqb-true q.0 link on) first in
-    let below : ReceivedBelow link bound (received (own graph (head_of graph link) past) r) =
+    let below : ReceivedBelow plane.BestEffort link bound (received (own graph (head_of graph link) past) r) =
     λ p same at. let packet : q.1.be.0 ≡ p.1.be.0 = cc in omega (arith, packet) in
-    let more : best_received graph link (r ∷ past) ≤ bound = received_below graph link bound past r (omega arith) below in
-    settled_less (best_received graph link (r ∷ past)) bound (waiting_on link past) more
-    (settled_first (best_received graph link past) (waiting_on link past) q.1 here settled)
+    let more : greatest_received plane.BestEffort graph link (r ∷ past) ≤ bound = received_below plane.BestEffort graph link bound past r (omega arith) below in
+    settled_less (greatest_received plane.BestEffort graph link (r ∷ past)) bound (waiting_on link past) more
+    (settled_first (greatest_received plane.BestEffort graph link past) (waiting_on link past) q.1 here settled)
 by_link false graph link past r q off is first settled =
-    let below : ReceivedBelow link (best_received graph link past) (received (own graph (head_of graph link) past) r) =
+    let below : ReceivedBelow plane.BestEffort link (greatest_received plane.BestEffort graph link past) (received (own graph (head_of graph link) past) r) =
     λ p same at. let number : q.0 ≡ p.0 = cc in let never : (q.0 == link) ≡ true = eq-eqb q.0 link (number ∙ at) in cc in
-    settled_less (best_received graph link (r ∷ past)) (best_received graph link past) (waiting_on link past)
-    (received_below graph link (best_received graph link past) past r (omega arith) below) settled
+    settled_less (greatest_received plane.BestEffort graph link (r ∷ past)) (greatest_received plane.BestEffort graph link past) (waiting_on link past)
+    (received_below plane.BestEffort graph link (greatest_received plane.BestEffort graph link past) past r (omega arith) below) settled
 
 by_receipt : (o : Option (ℕ × Packet)) (graph : Graph) (link : ℕ) (past : List Record) (r : Record) → IsOrderedStep graph past r
     → received (own graph (head_of graph link) past) r ≡ o → IsSettled graph link past
-    → IsSettledBy (best_received graph link (r ∷ past)) (waiting_on link past)
+    → IsSettledBy (greatest_received plane.BestEffort graph link (r ∷ past)) (waiting_on link past)
 by_receipt None graph link past r step is settled =
-    let below : ReceivedBelow link (best_received graph link past) (received (own graph (head_of graph link) past) r) = λ p same at. cc in
-    settled_less (best_received graph link (r ∷ past)) (best_received graph link past) (waiting_on link past)
-    (received_below graph link (best_received graph link past) past r (omega arith) below) settled
+    let below : ReceivedBelow plane.BestEffort link (greatest_received plane.BestEffort graph link past) (received (own graph (head_of graph link) past) r) = λ p same at. cc in
+    settled_less (greatest_received plane.BestEffort graph link (r ∷ past)) (greatest_received plane.BestEffort graph link past) (waiting_on link past)
+    (received_below plane.BestEffort graph link (greatest_received plane.BestEffort graph link past) past r (omega arith) below) settled
 by_receipt (Some q) graph link past r step is settled =
     let o : List Record = own graph (head_of graph link) past in
     by_link (q.0 == link) graph link past r q refl is (received_first past o r q step.oldest (receives graph past o r q step.rules is)) settled
 
 pub received_settled : (graph : Graph) (link : ℕ) (past : List Record) (r : Record) → IsOrderedStep graph past r → IsSettled graph link past
-    → IsSettledBy (best_received graph link (r ∷ past)) (waiting_on link past)
+    → IsSettledBy (greatest_received plane.BestEffort graph link (r ∷ past)) (waiting_on link past)
 received_settled graph link past r step settled = by_receipt (received (own graph (head_of graph link) past) r) graph link past r step refl settled
 
 -- the greatest field received, as the head of the link has it
-pub at_head : (graph : Graph) (past : List Record) (node link : ℕ) → head_of graph link ≡ node → register plane.BestEffort (moments_of (own graph node past)) link ≡ best_received graph link past
+pub at_head : (graph : Graph) (past : List Record) (node link : ℕ) → head_of graph link ≡ node → register plane.BestEffort (moments_of (own graph node past)) link ≡ greatest_received plane.BestEffort graph link past
 at_head graph past node link head = ap (λ (n : ℕ). register plane.BestEffort (moments_of (own graph n past)) link) (sym head)

@@ -1,4 +1,5 @@
--- The principle of packets: what stays true along a run, and holds of each packet as it is put, holds of each that waits.
+-- The principle of packets: what stays true along a run, and holds of each packet as it is put, holds of each that waits and
+-- of each that was received.
 use Rattle.std.proofs.Common.{◌≡◌, ℕ, ◌==◌, ◌&&◌, not, if◌then◌else◌, Bool, true, false, List, [], ◌∷◌, ◌++◌, Option, None, Some, take, drop, refl, sym, subst, ◌∙◌, zero, suc}
 use Rattle.std.specs.List.{All, remove, slice_get}
 use Rattle.std.proofs.lemmas.List.Elements.{All-nil, All-cons, All-head, All-tail, All-append, All-take, All-drop, All-weaker}
@@ -11,10 +12,14 @@ use Rattle.pipe_model.specs.declared.event.Event.{Event}
 use Rattle.pipe_model.specs.declared.event.Event.TheVariants.{Take, Lose, ControlTake}
 use Rattle.pipe_model.specs.declared.record.Record.{Record}
 use Rattle.pipe_model.specs.declared.record.Took.TheVariants.{Nothing, Link}
-use Rattle.pipe_model.specs.Acting.{is_idle}
+use Rattle.pipe_model.specs.Acting.{is_idle, is_own, own}
+use Rattle.pipe_model.specs.Moments.{received}
 use Rattle.pipe_model.specs.Outcome.{item_at, outcome_of, took_at, took_message}
+use Rattle.pipe_model.specs.Packets.{OfAllPackets, receipts, with_receipt}
 use Rattle.pipe_model.specs.Run.{IsHistory, IsStep}
 use Rattle.pipe_model.specs.Waiting.{is_cut, is_ok, left_after, put_on, waiting_on, waiting_control}
+use Rattle.pipe_model.proofs.Own.{own_more, own_same}
+use Rattle.pipe_model_net.proofs.Receipts.{receives}
 
 removed : (P : Packet → Type 0) (ps : List Packet) (place : ℕ) → All P ps → All P (remove ps place)
 removed P ps place all = All-append P (take place ps) (drop (suc place) ps) (All-take P place ps all) (All-drop P (suc place) ps all)
@@ -74,10 +79,10 @@ at_place P [] place p all is = cc
 at_place P (q ∷ qs) zero p all is = let same : q ≡ p = cc in subst P same (All-head P q qs all)
 at_place P (q ∷ qs) (suc place) p all is = at_place P qs place p (All-tail P q qs all) is
 
--- what is asked of a property: it stays, and holds of what is put where it held of what was taken
+-- what is asked of a property: it stays, and holds of what a record puts where it held of what the record took
 pub record IsKept (graph : Graph) (Q : List Record → Packet → Type 0) : Type 0 where
   pub stays : (past : List Record) (r : Record) (p : Packet) → Q past p → Q (r ∷ past) p
-  pub starts : (past : List Record) (r : Record) → IsStep graph past r → ((l : LinkId) (p : Packet) → r.took ≡ Link l p → Q past p)
+  pub starts : (past : List Record) (r : Record) → IsHistory graph past → IsStep graph past r → ((l : LinkId) (p : Packet) → r.took ≡ Link l p → Q past p)
       → All (λ q. Q (r ∷ past) q.1) r.step.put
 
 taken_keeps : (graph : Graph) (Q : List Record → Packet → Type 0) (past : List Record) (r : Record) (l : LinkId) (p : Packet)
@@ -94,4 +99,42 @@ packets_keep graph Q kept (r ∷ past) run link =
     (All-append (Q (r ∷ past)) (left_after link r.event r.step.outcome (waiting_on link past)) (put_on link r.step.put)
     (left_all (Q (r ∷ past)) link r.event r.step.outcome (waiting_on link past)
     (All-weaker (Q past) (Q (r ∷ past)) (λ p. kept.stays past r p) (waiting_on link past) (before link)))
-    (put_all (Q (r ∷ past)) link r.step.put (kept.starts past r run.1 (λ l p took. taken_keeps graph Q past r l p run.1 before took))))
+    (put_all (Q (r ∷ past)) link r.step.put (kept.starts past r run.0 run.1 (λ l p took. taken_keeps graph Q past r l p run.1 before took))))
+
+-- ---- the packets that were received
+
+receipt_more : (P : Packet → Type 0) (o : Option (ℕ × Packet)) (qs : List (ℕ × Packet)) → ((q : ℕ × Packet) → o ≡ Some q → P q.1) → All (λ q. P q.1) qs
+    → All (λ q. P q.1) (with_receipt o qs)
+receipt_more P None qs new all = all
+receipt_more P (Some q) qs new all = All-cons (λ (x : ℕ × Packet). P x.1) q qs (new q refl) all
+
+received_more : (graph : Graph) (Q : List Record → Packet → Type 0) → IsKept graph Q → (past : List Record) (r : Record) (node : ℕ) → IsHistory graph past
+    → IsStep graph past r → (b : Bool) → is_own graph node r ≡ b → All (λ q. Q past q.1) (receipts (own graph node past))
+    → All (λ q. Q (r ∷ past) q.1) (receipts (own graph node (r ∷ past)))
+received_more graph Q kept past r node run step b is before =
+    let o : List Record = own graph node past in
+    let stay : All (λ q. Q (r ∷ past) q.1) (receipts o) =
+    All-weaker (λ (q : ℕ × Packet). Q past q.1) (λ (q : ℕ × Packet). Q (r ∷ past) q.1) (λ (q : ℕ × Packet) holds. kept.stays past r q.1 holds) (receipts o) before in
+    let new : (q : ℕ × Packet) → received o r ≡ Some q → Q (r ∷ past) q.1 =
+    λ q at.
+    let w = receives graph past o r q step at in
+    kept.stays past r q.1 (at_place (Q past) (waiting_on q.0 past) w.place q.1 (packets_keep graph Q kept past run q.0) w.waited) in
+    by_owner b is stay new
+  where
+    by_owner : (b : Bool) → is_own graph node r ≡ b → All (λ q. Q (r ∷ past) q.1) (receipts (own graph node past))
+        → ((q : ℕ × Packet) → received (own graph node past) r ≡ Some q → Q (r ∷ past) q.1) → All (λ q. Q (r ∷ past) q.1) (receipts (own graph node (r ∷ past)))
+    by_owner true mine stay new =
+        subst (λ (x : List Record). All (λ (q : ℕ × Packet). Q (r ∷ past) q.1) (receipts x)) (sym (own_more graph node r past mine))
+        (receipt_more (Q (r ∷ past)) (received (own graph node past) r) (receipts (own graph node past)) new stay)
+    by_owner false other stay new =
+        subst (λ (x : List Record). All (λ (q : ℕ × Packet). Q (r ∷ past) q.1) (receipts x)) (sym (own_same graph node r past other)) stay
+
+received_keep : (graph : Graph) (Q : List Record → Packet → Type 0) → IsKept graph Q → (past : List Record) → IsHistory graph past
+    → (node : ℕ) → All (λ q. Q past q.1) (receipts (own graph node past))
+received_keep graph Q kept [] run node = All-nil (λ (q : ℕ × Packet). Q [] q.1)
+received_keep graph Q kept (r ∷ past) run node =
+    received_more graph Q kept past r node run.0 run.1 (is_own graph node r) refl (received_keep graph Q kept past run.0 node)
+
+pub all_packets_keep : (graph : Graph) (Q : List Record → Packet → Type 0) → IsKept graph Q → (past : List Record) → IsHistory graph past
+    → OfAllPackets (Q past) graph past
+all_packets_keep graph Q kept past run = record { waiting = packets_keep graph Q kept past run; received = received_keep graph Q kept past run }

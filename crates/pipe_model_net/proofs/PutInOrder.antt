@@ -1,9 +1,11 @@
--- What waits on a link was put by its tail, in the same order, and the best-effort fields that a node puts on a link never fall.
+-- What waits on a link was put by its tail, in the same order, and the fields that a node puts on a link never fall.
 use Rattle.std.proofs.Common.{◌≡◌, ℕ, zero, suc, ◌≤◌, ◌==◌, ◌&&◌, not, if◌then◌else◌, Bool, true, false, List, [], ◌∷◌, ◌++◌, refl, inl, inr, sym, subst, ap, ◌∙◌, arith, le_trans}
 use Rattle.std.specs.List.{All, remove}
 use Rattle.std.proofs.lemmas.List.{append-nil}
 use Rattle.std.proofs.lemmas.List.Elements.{All-nil, All-head, All-tail, All-append, All-weaker}
 use Rattle.pipe_base.specs.declared.packet.Packet.{Packet}
+use Rattle.pipe_base.specs.declared.packet.Plane.{Plane}
+use Rattle.pipe_base.specs.declared.packet.Plane.TheVariants as plane
 use Rattle.pipe_base.specs.declared.step.Outcome.{Outcome}
 use Rattle.pipe_base.specs.Graph.{Graph, tail_of}
 use Rattle.pipe_model.specs.declared.event.Event.{Event}
@@ -11,58 +13,68 @@ use Rattle.pipe_model.specs.declared.event.Event.TheVariants.{Take, Lose}
 use Rattle.pipe_model.specs.declared.record.Record.{Record}
 use Rattle.pipe_model.specs.Acting.{is_idle, is_own, own}
 use Rattle.pipe_model.specs.Duties.{fields}
-use Rattle.pipe_model.specs.OnLink.{AreSomeOf, NeverFalls, best_promise, put_along}
+use Rattle.pipe_model.specs.NodePromise.{node_promise}
+use Rattle.pipe_model.specs.OnLink.{AreSomeOf, NeverFalls, field, put_along}
 use Rattle.pipe_model.specs.Run.{IsHistory, IsNodeHistory, IsStep}
 use Rattle.pipe_model.specs.Waiting.{is_cut, is_ok, left_after, put_on, waiting_on}
 use Rattle.pipe_model.proofs.Own.{own_more, own_same}
+use Rattle.pipe_model.proofs.Promises.{node_rises}
 use Rattle.pipe_model_net.proofs.Acting.{nobodys_or_own, quiet_puts}
 use Rattle.pipe_model_net.proofs.Promised.{FieldBelow}
-use Rattle.pipe_model_net.proofs.Puts.{Carries, IsOn, field_between, promise_rises, puts_on}
+use Rattle.pipe_model_net.proofs.Puts.{Carries, IsOn, field_between, field_in, puts_on}
 
 -- ---- the fields of a node never fall
 
--- the best-effort field is at least the bound
-abbrev FieldAbove : ℕ → Packet → Type 0
-FieldAbove bound p = bound ≤ p.be.0
+-- the field is at least the bound
+abbrev FieldAbove : Plane → ℕ → Packet → Type 0
+FieldAbove plane bound p = bound ≤ field plane p
 
-same_never_fall : (field : ℕ) (ps : List Packet) → All (Carries field) ps → NeverFalls ps
-same_never_fall field [] all = tt
-same_never_fall field (p ∷ ps) all =
-    let here : Carries field p = All-head (Carries field) p ps all in
-    let rest : All (Carries field) ps = All-tail (Carries field) p ps all in
-    (All-weaker (Carries field) (FieldAbove p.be.0) (λ q carries. omega (arith, here, carries)) ps rest, same_never_fall field ps rest)
+same_never_fall : (plane : Plane) (value : ℕ) (ps : List Packet) → All (Carries plane value) ps → NeverFalls plane ps
+same_never_fall plane value [] all = tt
+same_never_fall plane value (p ∷ ps) all =
+    let here : Carries plane value p = All-head (Carries plane value) p ps all in
+    let rest : All (Carries plane value) ps = All-tail (Carries plane value) p ps all in (
+      All-weaker (Carries plane value) (FieldAbove plane (field plane p)) (λ q carries. omega (arith, here, carries)) ps rest,
+      same_never_fall plane value ps rest,
+    )
 
-both_never_fall : (bound : ℕ) (ps qs : List Packet) → NeverFalls ps → NeverFalls qs → All (FieldBelow bound) ps → All (FieldAbove bound) qs → NeverFalls (ps ++ qs)
-both_never_fall bound [] qs first second below above = second
-both_never_fall bound (p ∷ ps) qs first second below above =
-    let here : FieldBelow bound p = All-head (FieldBelow bound) p ps below in (
-      All-append (FieldAbove p.be.0) ps qs first.0 (All-weaker (FieldAbove bound) (FieldAbove p.be.0) (λ q le. le_trans here le) qs above),
-      both_never_fall bound ps qs first.1 second (All-tail (FieldBelow bound) p ps below) above,
+both_never_fall : (plane : Plane) (bound : ℕ) (ps qs : List Packet) → NeverFalls plane ps → NeverFalls plane qs → All (FieldBelow plane bound) ps
+    → All (FieldAbove plane bound) qs → NeverFalls plane (ps ++ qs)
+both_never_fall plane bound [] qs first second below above = second
+both_never_fall plane bound (p ∷ ps) qs first second below above =
+    let here : FieldBelow plane bound p = All-head (FieldBelow plane bound) p ps below in
+    let value : ℕ = field plane p in (
+      All-append (FieldAbove plane value) ps qs first.0 (All-weaker (FieldAbove plane bound) (FieldAbove plane value) (λ q le. le_trans here le) qs above),
+      both_never_fall plane bound ps qs first.1 second (All-tail (FieldBelow plane bound) p ps below) above,
     )
 
 -- all that a node put on a link is at most what it promises
-put_promised : (graph : Graph) (node link : ℕ) (own : List Record) → IsNodeHistory graph node own → All (FieldBelow (best_promise graph node own)) (put_along link own)
-put_promised graph node link [] history = All-nil (FieldBelow (best_promise graph node []))
-put_promised graph node link (r ∷ own) history =
-    let now : ℕ = best_promise graph node (r ∷ own) in
-    let between = field_between graph node own r history.1 in
-    let rises : best_promise graph node own ≤ now = promise_rises graph node own r in
-    All-append (FieldBelow now) (put_along link own) (put_on link r.step.put)
-    (All-weaker (FieldBelow (best_promise graph node own)) (FieldBelow now) (λ p low. le_trans low rises) (put_along link own) (put_promised graph node link own history.0))
-    (All-weaker (IsOn graph node link (fields graph node own r).be) (FieldBelow now) (λ p on. omega (arith, on.1, between.1)) (put_on link r.step.put)
-    (puts_on graph node link own r history.1))
+put_promised : (plane : Plane) (graph : Graph) (node link : ℕ) (own : List Record) → IsNodeHistory graph node own
+    → All (FieldBelow plane (node_promise plane graph node own)) (put_along link own)
+put_promised plane graph node link [] history = All-nil (FieldBelow plane (node_promise plane graph node []))
+put_promised plane graph node link (r ∷ own) history =
+    let before : ℕ = node_promise plane graph node own in
+    let now : ℕ = node_promise plane graph node (r ∷ own) in
+    let value : ℕ = field_in plane (fields graph node own r) in
+    let between = field_between plane graph node own r history.1 in
+    let rises : before ≤ now = node_rises plane graph node own r history.1 in
+    All-append (FieldBelow plane now) (put_along link own) (put_on link r.step.put)
+    (All-weaker (FieldBelow plane before) (FieldBelow plane now) (λ p low. le_trans low rises) (put_along link own) (put_promised plane graph node link own history.0))
+    (All-weaker (IsOn plane graph node link value) (FieldBelow plane now) (λ p on. omega (arith, on.1, between.1)) (put_on link r.step.put)
+    (puts_on plane graph node link own r history.1))
 
-pub node_never_falls : (graph : Graph) (node link : ℕ) (own : List Record) → IsNodeHistory graph node own → NeverFalls (put_along link own)
-node_never_falls graph node link [] history = tt
-node_never_falls graph node link (r ∷ own) history =
-    let field : ℕ = (fields graph node own r).be in
-    let between = field_between graph node own r history.1 in
-    let puts : All (IsOn graph node link field) (put_on link r.step.put) = puts_on graph node link own r history.1 in
-    both_never_fall (best_promise graph node own) (put_along link own) (put_on link r.step.put) (node_never_falls graph node link own history.0)
-    (same_never_fall field (put_on link r.step.put)
-    (All-weaker (IsOn graph node link field) (Carries field) (λ p on. on.1) (put_on link r.step.put) puts))
-    (put_promised graph node link own history.0)
-    (All-weaker (IsOn graph node link field) (FieldAbove (best_promise graph node own)) (λ p on. omega (arith, on.1, between.0)) (put_on link r.step.put) puts)
+pub node_never_falls : (plane : Plane) (graph : Graph) (node link : ℕ) (own : List Record) → IsNodeHistory graph node own → NeverFalls plane (put_along link own)
+node_never_falls plane graph node link [] history = tt
+node_never_falls plane graph node link (r ∷ own) history =
+    let before : ℕ = node_promise plane graph node own in
+    let value : ℕ = field_in plane (fields graph node own r) in
+    let between = field_between plane graph node own r history.1 in
+    let puts : All (IsOn plane graph node link value) (put_on link r.step.put) = puts_on plane graph node link own r history.1 in
+    both_never_fall plane before (put_along link own) (put_on link r.step.put) (node_never_falls plane graph node link own history.0)
+    (same_never_fall plane value (put_on link r.step.put)
+    (All-weaker (IsOn plane graph node link value) (Carries plane value) (λ p on. on.1) (put_on link r.step.put) puts))
+    (put_promised plane graph node link own history.0)
+    (All-weaker (IsOn plane graph node link value) (FieldAbove plane before) (λ p on. omega (arith, on.1, between.0)) (put_on link r.step.put) puts)
 
 -- ---- some of a list, in order
 
@@ -117,7 +129,8 @@ put_elsewhere graph link past r step other =
       | inl quiet ↦ ap (put_on link) (quiet_puts graph past r step quiet)
       | inr mine ↦
           let o : List Record = own graph mine.0 past in
-          none_of (IsOn graph mine.0 link (fields graph mine.0 o r).be) (put_on link r.step.put) (puts_on graph mine.0 link o r (step.node mine.0 mine.1))
+          none_of (IsOn plane.BestEffort graph mine.0 link (fields graph mine.0 o r).be) (put_on link r.step.put)
+          (puts_on plane.BestEffort graph mine.0 link o r (step.node mine.0 mine.1))
           (λ p on. let its : is_own graph (tail_of graph link) r ≡ true = ap (λ (n : ℕ). is_own graph n r) on.0 ∙ mine.1 in cc)
     ]
 

@@ -4,7 +4,7 @@ use Rattle.std.specs.List.{slice_get}
 use Rattle.pipe_base.specs.declared.name.LinkId.{LinkId}
 use Rattle.pipe_base.specs.declared.name.Ts.{Ts}
 use Rattle.pipe_base.specs.declared.packet.Packet.{Packet}
-use Rattle.pipe_base.specs.declared.packet.Plane.TheVariants as plane
+use Rattle.pipe_base.specs.declared.packet.Plane.{Plane}
 use Rattle.pipe_base.specs.Barrier.{register}
 use Rattle.pipe_base.specs.Graph.{Graph, head_of}
 use Rattle.pipe_base.specs.Moment.{Moment, WentDown, Dropped, is_up, keeps_links, with_received, with_downed, with_dropped}
@@ -15,7 +15,7 @@ use Rattle.pipe_model.specs.declared.record.Took.{Took}
 use Rattle.pipe_model.specs.declared.record.Took.TheVariants.{Nothing}
 use Rattle.pipe_model.specs.Acting.{is_idle, is_own, own}
 use Rattle.pipe_model.specs.Moments.{moments_of, received, received_of, taken_from}
-use Rattle.pipe_model.specs.OnLink.{best_received}
+use Rattle.pipe_model.specs.OnLink.{field, greatest_received}
 use Rattle.pipe_model.specs.Outcome.{outcome_of, took_at, took_of}
 use Rattle.pipe_model.specs.Run.{IsStep}
 use Rattle.pipe_model.specs.Waiting.{waiting_on}
@@ -72,49 +72,49 @@ receives graph past own r q step is = by_event graph past (moments_of own) r.eve
 
 -- ---- the greatest field received
 
-register_downed : (ds : List (LinkId × Ts)) (past : List Moment) (link : ℕ) → register plane.BestEffort (with_downed ds past) link ≡ register plane.BestEffort past link
-register_downed [] past link = refl
-register_downed (d ∷ ds) past link = register_downed ds (WentDown d.0.0 ∷ past) link
+register_downed : (plane : Plane) (ds : List (LinkId × Ts)) (past : List Moment) (link : ℕ) → register plane (with_downed ds past) link ≡ register plane past link
+register_downed plane [] past link = refl
+register_downed plane (d ∷ ds) past link = register_downed plane ds (WentDown d.0.0 ∷ past) link
 
-register_dropped : (ls : List LinkId) (past : List Moment) (link : ℕ) → register plane.BestEffort (with_dropped ls past) link ≡ register plane.BestEffort past link
-register_dropped [] past link = refl
-register_dropped (l ∷ ls) past link = register_dropped ls (Dropped l.0 ∷ past) link
+register_dropped : (plane : Plane) (ls : List LinkId) (past : List Moment) (link : ℕ) → register plane (with_dropped ls past) link ≡ register plane past link
+register_dropped plane [] past link = refl
+register_dropped plane (l ∷ ls) past link = register_dropped plane ls (Dropped l.0 ∷ past) link
 
 -- a packet received on the link has at most this field
-abbrev pub ReceivedBelow : ℕ → ℕ → Option (ℕ × Packet) → Type 0
-ReceivedBelow link bound o = (q : ℕ × Packet) → o ≡ Some q → q.0 ≡ link → q.1.be.0 ≤ bound
+abbrev pub ReceivedBelow : Plane → ℕ → ℕ → Option (ℕ × Packet) → Type 0
+ReceivedBelow plane link bound o = (q : ℕ × Packet) → o ≡ Some q → q.0 ≡ link → field plane q.1 ≤ bound
 
-max_below : (b : Bool) (l link old field bound : ℕ) → (l == link) ≡ b → old ≤ bound → (l ≡ link → field ≤ bound) → (if b then max old field else old) ≤ bound
-max_below true l link old field bound is low here = let le : field ≤ bound = here (eqb-true l link is) in omega arith
-max_below false l link old field bound is low here = low
+max_below : (b : Bool) (l link old value bound : ℕ) → (l == link) ≡ b → old ≤ bound → (l ≡ link → value ≤ bound) → (if b then max old value else old) ≤ bound
+max_below true l link old value bound is low here = let le : value ≤ bound = here (eqb-true l link is) in omega arith
+max_below false l link old value bound is low here = low
 
-register_received : (looked : Bool) (o : Option (ℕ × Packet)) (past : List Moment) (link bound : ℕ) → register plane.BestEffort past link ≤ bound
-    → ReceivedBelow link bound o → register plane.BestEffort (with_received looked o past) link ≤ bound
-register_received looked None past link bound low below = low
-register_received true (Some q) past link bound low below =
-    max_below (q.0 == link) q.0 link (register plane.BestEffort past link) q.1.be.0 bound refl low (below q refl)
-register_received false (Some q) past link bound low below =
-    max_below (q.0 == link) q.0 link (register plane.BestEffort past link) q.1.be.0 bound refl low (below q refl)
+register_received : (plane : Plane) (looked : Bool) (o : Option (ℕ × Packet)) (past : List Moment) (link bound : ℕ) → register plane past link ≤ bound
+    → ReceivedBelow plane link bound o → register plane (with_received looked o past) link ≤ bound
+register_received plane looked None past link bound low below = low
+register_received plane true (Some q) past link bound low below =
+    max_below (q.0 == link) q.0 link (register plane past link) (field plane q.1) bound refl low (below q refl)
+register_received plane false (Some q) past link bound low below =
+    max_below (q.0 == link) q.0 link (register plane past link) (field plane q.1) bound refl low (below q refl)
 
-register_more : (own : List Record) (r : Record) (link bound : ℕ) → register plane.BestEffort (moments_of own) link ≤ bound → ReceivedBelow link bound (received own r)
-    → register plane.BestEffort (moments_of (r ∷ own)) link ≤ bound
-register_more own r link bound low below =
+register_more : (plane : Plane) (own : List Record) (r : Record) (link bound : ℕ) → register plane (moments_of own) link ≤ bound → ReceivedBelow plane link bound (received own r)
+    → register plane (moments_of (r ∷ own)) link ≤ bound
+register_more plane own r link bound low below =
     let before : List Moment = with_received (keeps_links r.step.downed r.step.dropped) (received own r) (moments_of own) in
-    let same : register plane.BestEffort (moments_of (r ∷ own)) link ≡ register plane.BestEffort before link =
-    register_dropped r.step.dropped (with_downed r.step.downed before) link ∙ register_downed r.step.downed before link in
-    subst (λ (n : ℕ). n ≤ bound) (sym same) (register_received (keeps_links r.step.downed r.step.dropped) (received own r) (moments_of own) link bound low below)
+    let same : register plane (moments_of (r ∷ own)) link ≡ register plane before link =
+    register_dropped plane r.step.dropped (with_downed r.step.downed before) link ∙ register_downed plane r.step.downed before link in
+    subst (λ (n : ℕ). n ≤ bound) (sym same) (register_received plane (keeps_links r.step.downed r.step.dropped) (received own r) (moments_of own) link bound low below)
 
-more_received : (b : Bool) (graph : Graph) (link bound : ℕ) (past : List Record) (r : Record) → is_own graph (head_of graph link) r ≡ b
-    → best_received graph link past ≤ bound → ReceivedBelow link bound (received (own graph (head_of graph link) past) r)
-    → best_received graph link (r ∷ past) ≤ bound
-more_received true graph link bound past r is low below =
-    subst (λ (o : List Record). register plane.BestEffort (moments_of o) link ≤ bound) (sym (own_more graph (head_of graph link) r past is))
-    (register_more (own graph (head_of graph link) past) r link bound low below)
-more_received false graph link bound past r isnt low below =
-    subst (λ (o : List Record). register plane.BestEffort (moments_of o) link ≤ bound) (sym (own_same graph (head_of graph link) r past isnt)) low
+more_received : (b : Bool) (plane : Plane) (graph : Graph) (link bound : ℕ) (past : List Record) (r : Record) → is_own graph (head_of graph link) r ≡ b
+    → greatest_received plane graph link past ≤ bound → ReceivedBelow plane link bound (received (own graph (head_of graph link) past) r)
+    → greatest_received plane graph link (r ∷ past) ≤ bound
+more_received true plane graph link bound past r is low below =
+    subst (λ (o : List Record). register plane (moments_of o) link ≤ bound) (sym (own_more graph (head_of graph link) r past is))
+    (register_more plane (own graph (head_of graph link) past) r link bound low below)
+more_received false plane graph link bound past r isnt low below =
+    subst (λ (o : List Record). register plane (moments_of o) link ≤ bound) (sym (own_same graph (head_of graph link) r past isnt)) low
 
 -- what bounds the greatest field before the record and what it receives, bounds it after the record
-pub received_below : (graph : Graph) (link bound : ℕ) (past : List Record) (r : Record) → best_received graph link past ≤ bound
-    → ReceivedBelow link bound (received (own graph (head_of graph link) past) r)
-    → best_received graph link (r ∷ past) ≤ bound
-received_below graph link bound past r low below = more_received (is_own graph (head_of graph link) r) graph link bound past r refl low below
+pub received_below : (plane : Plane) (graph : Graph) (link bound : ℕ) (past : List Record) (r : Record) → greatest_received plane graph link past ≤ bound
+    → ReceivedBelow plane link bound (received (own graph (head_of graph link) past) r)
+    → greatest_received plane graph link (r ∷ past) ≤ bound
+received_below plane graph link bound past r low below = more_received (is_own graph (head_of graph link) r) plane graph link bound past r refl low below

@@ -5,6 +5,7 @@ use Rattle.std.specs.List.{All, remove, slice_get}
 use Rattle.std.proofs.lemmas.List.Elements.{All-head, All-tail}
 use Rattle.pipe_base.specs.declared.packet.Packet.{Packet}
 use Rattle.pipe_base.specs.declared.packet.PacketKind.TheVariants.{Plain}
+use Rattle.pipe_base.specs.declared.packet.Plane.TheVariants as plane
 use Rattle.pipe_base.specs.declared.step.Outcome.{Outcome}
 use Rattle.pipe_model.specs.declared.event.Event.{Event}
 use Rattle.pipe_model.specs.declared.event.Event.TheVariants.{Take, Lose}
@@ -52,7 +53,7 @@ settled_left bound link _ outcome ps settled = settled
 
 -- packets of one field, none of which is below it
 pub record IsFresh (field : ℕ) (p : Packet) : Type 0 where
-  pub carries : Carries field p
+  pub carries : Carries plane.BestEffort field p
   pub timely : IsAbove field p
 
 fresh_settled : (bound field : ℕ) (ps : List Packet) → bound ≤ field → All (IsFresh field) ps → IsSettledBy bound ps
@@ -65,12 +66,12 @@ fresh_settled bound field (p ∷ ps) le all =
     )
 
 -- they are appended where no field before is above theirs
-pub settled_more : (bound field : ℕ) (ps qs : List Packet) → bound ≤ field → All (FieldBelow field) ps → IsSettledBy bound ps → All (IsFresh field) qs
+pub settled_more : (bound field : ℕ) (ps qs : List Packet) → bound ≤ field → All (FieldBelow plane.BestEffort field) ps → IsSettledBy bound ps → All (IsFresh field) qs
     → IsSettledBy bound (ps ++ qs)
 settled_more bound field [] qs le below settled fresh = fresh_settled bound field qs le fresh
 settled_more bound field (p ∷ ps) qs le below settled fresh =
-    let here : FieldBelow field p = All-head (FieldBelow field) p ps below in
-    (settled.0, settled_more (max bound p.be.0) field ps qs (omega (arith, here)) (All-tail (FieldBelow field) p ps below) settled.1 fresh)
+    let here : FieldBelow plane.BestEffort field p = All-head (FieldBelow plane.BestEffort field) p ps below in
+    (settled.0, settled_more (max bound p.be.0) field ps qs (omega (arith, here)) (All-tail (FieldBelow plane.BestEffort field) p ps below) settled.1 fresh)
 
 -- the first packet: its own field may join the bound, as it is counted already
 pub settled_first : (bound : ℕ) (ps : List Packet) (p : Packet) → slice_get ps 0 ≡ Some p → IsSettledBy bound ps → IsSettledBy (max bound p.be.0) ps

@@ -1,22 +1,42 @@
-//! Laws of every run, between the nodes: what is logged was sent, the events determine all that happens, what bounds the
-//! best-effort barriers on a link, and that best effort is never late where links keep order.
+//! Laws of every run, between the nodes: what is logged and what travels was sent, what an acknowledgement tells, the events
+//! determine all that happens, what bounds the barriers on a link, and that best effort is never late where links keep order.
 #![tactic(auto)]
 
 ghost use Rattle.std.specs.Prelude.{◌≡◌, ℕ, All, List, map, reverse};
+ghost use Rattle.pipe_base.specs.declared.packet.Plane.{Plane};
 ghost use Rattle.pipe_base.specs.Graph.{Graph, tail_of};
 ghost use Rattle.pipe_model.specs.declared.event.Event.{Event};
 ghost use Rattle.pipe_model.specs.declared.record.Record.{Record};
+ghost use Rattle.pipe_model.specs.Acknowledged.{AreAcksTrue};
 ghost use Rattle.pipe_model.specs.Acting.{own};
 ghost use Rattle.pipe_model.specs.Event.{IsOfGraph};
+ghost use Rattle.pipe_model.specs.MessagesSent.{AreMessagesSent};
 ghost use Rattle.pipe_model.specs.NeverLate.{AreLinksOrdered, AreOfGraph, IsNeverLate, IsOfOldest};
 ghost use Rattle.pipe_model.specs.OnLink.{AreFieldsPromised, AreSomeOf, NeverFalls, put_along};
 ghost use Rattle.pipe_model.specs.Order.{IsGenuine};
+ghost use Rattle.pipe_model.specs.PreparedHeld.{ArePreparedHeld};
 ghost use Rattle.pipe_model.specs.Run.{IsHistory, IsNodeHistory, IsRun, event_of};
 ghost use Rattle.pipe_model.specs.Waiting.{waiting_on};
 
 /// Genuineness: in every run, what is logged was sent before to that host and with that body.
 pub fn every_run_is_genuine()
     ensures { (graph : Graph) (past : List Record) → IsHistory graph past → IsGenuine graph past }
+{}
+
+/// Packets have their scattering: in every run, each message that waits or was received belongs to an accepted send of its
+/// sender, which lists its receiver with its body.
+pub fn every_message_was_sent()
+    ensures { (graph : Graph) (past : List Record) → IsHistory graph past → AreMessagesSent graph past }
+{}
+
+/// In every run, each acknowledgement that waits or was received means that the host that sent it held the message.
+pub fn acknowledgements_are_true()
+    ensures { (graph : Graph) (past : List Record) → IsHistory graph past → AreAcksTrue graph past }
+{}
+
+/// In every run, where a reliable scattering is prepared, each of its receivers held it.
+pub fn prepared_scatterings_are_held()
+    ensures { (graph : Graph) (past : List Record) → IsHistory graph past → ArePreparedHeld graph past }
 {}
 
 /// The events determine a run: two runs of the same events over the same graph are equal, record by record.
@@ -29,14 +49,15 @@ pub fn packets_wait_in_order()
     ensures { (graph : Graph) (past : List Record) → IsHistory graph past → (link : ℕ) → AreSomeOf (waiting_on link past) (put_along link (own graph (tail_of graph link) past)) }
 {}
 
-/// Whatever a node is handed, the best-effort fields that it puts on a link never fall.
+/// Whatever a node is handed, the fields of a plane that it puts on a link never fall.
 pub fn fields_never_fall()
-    ensures { (graph : Graph) (node link : ℕ) (own : List Record) → IsNodeHistory graph node own → NeverFalls (put_along link own) }
+    ensures { (plane : Plane) (graph : Graph) (node link : ℕ) (own : List Record) → IsNodeHistory graph node own → NeverFalls plane (put_along link own) }
 {}
 
-/// Each best-effort field that waits on a link or was received on it is at most what the tail of the link promises now.
+/// Each field that waits on a link or was received on it is at most what the tail of the link promises now, in each plane: on
+/// commit a host its promise, a half its commit barrier.
 pub fn fields_are_promised()
-    ensures { (graph : Graph) (past : List Record) → IsHistory graph past → (link : ℕ) → AreFieldsPromised graph link past }
+    ensures { (plane : Plane) (graph : Graph) (past : List Record) → IsHistory graph past → (link : ℕ) → AreFieldsPromised plane graph link past }
 {}
 
 /// In every run of events of the network in which each take names the oldest packet of its link, no best-effort message is

@@ -1,3 +1,2 @@
 pub mod Causal
 pub mod Ordered
-pub mod Promises

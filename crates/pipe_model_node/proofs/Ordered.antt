@@ -6,7 +6,6 @@ use Rattle.std.proofs.lemmas.Bool.Decides.{nat_tests}
 use Rattle.pipe_base.specs.declared.message.Entry.{Entry}
 use Rattle.pipe_base.specs.declared.message.Key.{Key}
 use Rattle.pipe_base.specs.declared.message.Service.{Service}
-use Rattle.pipe_base.specs.declared.message.Service.TheVariants.{BestEffort, Reliable}
 use Rattle.pipe_base.specs.declared.packet.Packet.{Packet}
 use Rattle.pipe_base.specs.declared.step.Fate.{Fate}
 use Rattle.pipe_base.specs.declared.step.Fate.TheVariants.{Held}
@@ -22,7 +21,7 @@ use Rattle.pipe_model.specs.Order.{IsRising}
 use Rattle.pipe_model.specs.Run.{IsNodeHistory, IsNodeStep}
 use Rattle.pipe_model.proofs.Rising.{barrier_rises}
 use Rattle.pipe_model_node.proofs.Causal.{Below}
-use Rattle.pipe_model.proofs.Entries.{best_entries, no_entries}
+use Rattle.pipe_model.proofs.Entries.{entries_logged}
 
 -- two lists that rise, the first below a bound and the second from it on, rise together
 pub rising_both : (bound : ℕ) (xs ys : List Entry) → IsRising xs → IsRising ys → All (Below bound) xs → All (λ e. bound ≤ e.key.ts.0) ys → IsRising (xs ++ ys)
@@ -86,7 +85,7 @@ passed_from service graph node own r =
     (All-weaker (λ (m : Key × List ℕ). nat_le bound m.0.ts.0 ≡ true) (λ (m : Key × List ℕ). bound ≤ m.0.ts.0) (is_from bound) (from_barrier bound ms)
     (filter_passes (λ (m : Key × List ℕ). nat_le bound m.0.ts.0) ms)))
 
--- the entries of a service in a record are what it passes, or none
+-- the entries of a service in a record are what it passes
 pub record Enters (service : Service) (graph : Graph) (node : ℕ) (own : List Record) (r : Record) : Type 0 where
   pub rises : IsRising (entries_of service r.step.logged)
   pub below : All (Below (barrier_of service graph node (r ∷ own))) (entries_of service r.step.logged)
@@ -103,13 +102,10 @@ entered service graph node own r es is all =
     record { rises = now.0; below = now.1; above = now.2 }
 
 enters : (service : Service) (graph : Graph) (node : ℕ) (own : List Record) (r : Record) → IsNodeStep graph node own r → Enters service graph node own r
-enters BestEffort graph node own r step =
-    entered BestEffort graph node own r (map entry_of (passed_in BestEffort graph node own r))
-    (ap (entries_of BestEffort) step.logged_is ∙ best_entries (passed_in BestEffort graph node own r))
-    (passed_rises BestEffort graph node own r, passed_below BestEffort graph node own r, passed_from BestEffort graph node own r)
-enters Reliable graph node own r step =
-    entered Reliable graph node own r [] (ap (entries_of Reliable) step.logged_is ∙ no_entries (passed_in BestEffort graph node own r))
-    (tt, All-nil (Below (barrier_of Reliable graph node (r ∷ own))), All-nil (λ (e : Entry). barrier_of Reliable graph node own ≤ e.key.ts.0))
+enters service graph node own r step =
+    entered service graph node own r (map entry_of (passed_in service graph node own r))
+    (ap (entries_of service) step.logged_is ∙ entries_logged service graph node own r)
+    (passed_rises service graph node own r, passed_below service graph node own r, passed_from service graph node own r)
 
 -- all that a node logged is below its barrier
 pub log_below_barrier : (service : Service) (graph : Graph) (node : ℕ) (own : List Record) → IsNodeHistory graph node own

@@ -2,11 +2,12 @@
 //! bounds its barrier, and its promise never falls. In a run each node's own records are such records, so the laws hold of every run.
 #![tactic(auto)]
 
-ghost use Rattle.std.specs.Prelude.{◌≡◌, ◌<◌, ◌≤◌, ◌∷◌, ℕ, All, List, true};
+ghost use Rattle.std.specs.Prelude.{◌≡◌, ◌<◌, ◌≤◌, ◌∷◌, ℕ, All, List, length, true};
 ghost use Rattle.pipe_base.specs.declared.message.Service.{Service};
 ghost use Rattle.pipe_base.specs.declared.packet.Plane.{Plane};
 ghost use Rattle.pipe_base.specs.Barrier.{register};
 ghost use Rattle.pipe_base.specs.Graph.{Graph, ins_of};
+ghost use Rattle.pipe_base.specs.Limits.{most_unsettled};
 ghost use Rattle.pipe_base.specs.Moment.{has_link, is_used};
 ghost use Rattle.pipe_base.specs.Scattering.{AreRising, Scattering, begun};
 ghost use Rattle.pipe_base.specs.Settled.{is_settled, unsettled};
@@ -63,4 +64,9 @@ pub fn settled_scatterings_stay()
 pub fn scatterings_rise()
     ensures rise { (graph : Graph) (node : ℕ) (own : List Record) → IsNodeHistory graph node own → AreRising (begun (sender_calls graph node own)) }
     ensures below { (graph : Graph) (node : ℕ) (own : List Record) → All (λ s. s.ts.0 < next own) (begun (sender_calls graph node own)) }
+{}
+
+/// Whatever one node is handed, no more of its reliable scatterings are unsettled than the window has.
+pub fn windows_hold()
+    ensures { (graph : Graph) (node : ℕ) (own : List Record) → IsNodeHistory graph node own → length (unsettled (sender_calls graph node own)) ≤ most_unsettled }
 {}

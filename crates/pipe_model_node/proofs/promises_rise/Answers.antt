@@ -1,4 +1,4 @@
-use Rattle.pipe_model_node.proofs.Promises.{promise_bounds, promise_rises, promise_within}
+use Rattle.pipe_model.proofs.Promises.{promise_bounds, promise_rises, promise_within}
 use Rattle.pipe_model_node.proofs.promises_rise.Goals as goal
 
 pub returns : goal.returns

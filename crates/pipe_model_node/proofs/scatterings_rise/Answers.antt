@@ -1,4 +1,4 @@
-use Rattle.pipe_model_node.proofs.Promises.{begun_below_next, begun_rise}
+use Rattle.pipe_model.proofs.Promises.{begun_below_next, begun_rise}
 use Rattle.pipe_model_node.proofs.scatterings_rise.Goals as goal
 
 pub returns : goal.returns
