@@ -1,10 +1,11 @@
 // The sender of best-effort scatterings.
-ghost use Rattle.std.specs.Prelude.{◌≡◌, ◌+◌, ◌<◌, ◌^◌, length, map, IfOk, OnErr, OnOk};
+ghost use Rattle.std.specs.Prelude.{◌≡◌, ◌+◌, ◌<◌, ◌^◌, length, map, OnErr, OnOk};
 ghost use Rattle.pipe_base.specs.Packets.{message_to};
 ghost use Rattle.pipe_base.specs.ShortestRoute.{picked};
 ghost use Rattle.pipe_base.specs.Ways.{PutsAlone, with_ways};
 
-use pipe_base::{Dest, DestList, HostId, NoMemory, Packet, PacketKind, Router, Step, Ts};
+use crate::messages::scatter;
+use pipe_base::{DestList, HostId, NoMemory, Router, Service, Step, Ts};
 
 /// Sends scatterings that nobody acknowledges. It keeps nothing.
 pub struct BeSend;
@@ -24,26 +25,6 @@ impl BeSend {
         ensures ok { OnOk result (step.new ≡ with_ways (picked (R.links routes.now)) (map (message_to src ts (record { be = ts.0; commit = commit.0 })) dests.now) step.old) }
         ensures err { OnErr result (PutsAlone step.old step.new) }
     {
-        step.put.reserve(dests.len())?;
-        'dests: for dest in dests.as_slice() {
-            let packet = message(src, ts, commit, dest)?;
-            step.put_on_way(routes, packet)?;
-        }
-        Ok(())
+        scatter(Service::BestEffort, dests, src, ts, commit, routes, step)
     }
-}
-
-fn message(src: HostId, ts: Ts, commit: Ts, dest: &Dest) -> Result<Packet, NoMemory>
-    ensures { IfOk result (λ packet. packet ≡ message_to src ts (record { be = ts.0; commit = commit.0 }) dest.now) }
-{
-    let (dst, body) = dest;
-    Ok(Packet {
-        kind: PacketKind::Plain,
-        src,
-        dst: *dst,
-        ts,
-        be: ts,
-        commit,
-        body: body.try_clone()?,
-    })
 }

@@ -1,43 +1,56 @@
--- The stamps of a host are within the clock, and what it logs is below its barrier.
-use Rattle.std.proofs.Common.{◌≡◌, ℕ, ◌<◌, ◌≤◌, nat_le, Bool, true, false, if◌then◌else◌, List, [], ◌∷◌, Option, None, Some, IfSome, refl, sym, subst, ap, ◌∙◌, arith}
-use Rattle.std.specs.List.{All}
+-- The stamps of a host are within the clock, and what it logs is below the end of the type.
+use Rattle.std.proofs.Common.{◌≡◌, ℕ, ◌-◌, ◌^◌, ◌<◌, ◌≤◌, nat_le, Bool, true, false, List, ◌∷◌, ◌++◌, Option, None, IfSome, refl, sym, subst, arith}
 use Rattle.std.proofs.lemmas.Bool.Decides.{nat_tests}
-use Rattle.std.proofs.lemmas.List.Elements.{All-nil, All-cons, All-head, All-tail}
+use Rattle.std.proofs.lemmas.List.Elements.{All-append, All-weaker}
 use Rattle.pipe_base.specs.declared.message.Entry.{Entry}
-use Rattle.pipe_base.specs.declared.message.Key.{Key}
 use Rattle.pipe_base.specs.declared.message.Service.{Service}
+use Rattle.pipe_base.specs.declared.message.Service.TheVariants.{BestEffort, Reliable}
 use Rattle.pipe_base.specs.declared.name.Ts.{Ts}
-use Rattle.pipe_base.specs.declared.step.Outcome.{Outcome}
-use Rattle.pipe_base.specs.declared.step.Outcome.TheVariants.{Ok, ClockEnd}
+use Rattle.pipe_base.specs.declared.packet.Plane.TheVariants as plane
 use Rattle.pipe_base.specs.Clock.{stamp_at}
 use Rattle.pipe_base.specs.Graph.{Graph}
 use Rattle.pipe_base.specs.Limits.{last_stamp}
-use Rattle.pipe_base.specs.Messages.{AreBelow, Messages, below_barrier, logged_of}
-use Rattle.pipe_base.proofs.MessageLaws.{below-all}
+use Rattle.pipe_base.specs.Messages.{AreBelow, Messages, below_barrier, from_barrier, logged_of}
+use Rattle.pipe_base.specs.Settled.{unsettled}
+use Rattle.pipe_base.proofs.MessageLaws.{logged-below}
 use Rattle.pipe_model.specs.declared.event.Event.{Event}
 use Rattle.pipe_model.specs.declared.event.Event.TheVariants.{Send}
 use Rattle.pipe_model.specs.declared.record.Record.{Record}
 use Rattle.pipe_model.specs.Clock.{next}
-use Rattle.pipe_model.specs.OwnOutcome.{send_outcome, stamped, where_ok}
+use Rattle.pipe_model.specs.Fate.{held}
+use Rattle.pipe_model.specs.Logged.{logged, passed_in}
+use Rattle.pipe_model.specs.Moments.{barrier_at}
+use Rattle.pipe_model.specs.OwnOutcome.{clock_outcome, is_window_full, send_outcome, stamped, where_ok}
+use Rattle.pipe_model.specs.Sender.{sender_calls}
 
-logged_all : (b : ℕ) (s : Service) (ms : Messages) → All (λ (m : Key × List ℕ). m.0.ts.0 < b) ms → AreBelow b (logged_of s ms)
-logged_all b s [] all = All-nil (λ (e : Service × Entry). e.1.key.ts.0 < b)
-logged_all b s (m ∷ ms) all =
-    All-cons (λ (e : Service × Entry). e.1.key.ts.0 < b) (s, record { key = m.0; body = m.1 }) (logged_of s ms)
-    (All-head (λ (n : Key × List ℕ). n.0.ts.0 < b) m ms all) (logged_all b s ms (All-tail (λ (n : Key × List ℕ). n.0.ts.0 < b) m ms all))
+-- what is below a barrier is below the end of the type, as the barrier is within it
+pub below_end : (b : ℕ) (s : Service) (ms : Messages) → b ≤ 2 ^ 64 - 1 → AreBelow (2 ^ 64 - 1) (logged_of s (below_barrier b ms))
+below_end b s ms within =
+    All-weaker (λ (e : Service × Entry). e.1.key.ts.0 < b) (λ (e : Service × Entry). e.1.key.ts.0 < 2 ^ 64 - 1) (λ e lt. omega (arith, lt, within)) (logged_of s (below_barrier b ms)) (logged-below s b ms)
 
--- all that is logged is below the barrier
-pub logged_below : (b : ℕ) (s : Service) (ms : Messages) → AreBelow b (logged_of s (below_barrier b ms))
-logged_below b s ms = logged_all b s (below_barrier b ms) (below-all b ms)
+pub both_below_end : (xs ys : List (Service × Entry)) → AreBelow (2 ^ 64 - 1) xs → AreBelow (2 ^ 64 - 1) ys → AreBelow (2 ^ 64 - 1) (xs ++ ys)
+both_below_end xs ys below more = All-append (λ (e : Service × Entry). e.1.key.ts.0 < 2 ^ 64 - 1) xs ys below more
 
-short_by : (b : Bool) (now next : ℕ) → nat_le (stamp_at now next) last_stamp ≡ b → IfSome (where_ok (if b then Ok else ClockEnd (record { 0 = next })) (stamp_at now next)) (λ ts. ts.0 ≤ last_stamp)
-short_by true now next is = grind (arith, nat_tests, is)
-short_by false now next is = tt
+short_by : (b : Bool) (now next : ℕ) → nat_le (stamp_at now next) last_stamp ≡ b → IfSome (where_ok (clock_outcome now next) (stamp_at now next)) (λ ts. ts.0 ≤ last_stamp)
+short_by true now next is = rw is (grind (arith, nat_tests, is))
+short_by false now next is = rw is tt
+
+short_where : (full : Bool) (now next : ℕ) → IfSome (where_ok (send_outcome None full now next) (stamp_at now next)) (λ ts. ts.0 ≤ last_stamp)
+short_where true now next = tt
+short_where false now next = short_by (nat_le (stamp_at now next) last_stamp) now next refl
 
 stamps_within : (graph : Graph) (node : ℕ) (own : List Record) (event : Event) → IfSome (stamped graph node own event) (λ ts. ts.0 ≤ last_stamp)
-stamps_within graph node own (Send host service now dests) = short_by (nat_le (stamp_at now.0 (next own)) last_stamp) now.0 (next own) refl
+stamps_within graph node own (Send host service now dests) = short_where (is_window_full service (unsettled (sender_calls graph node own))) now.0 (next own)
 stamps_within graph node own _ = tt
 
 -- a stamp is within the clock
 pub stamp_within : (graph : Graph) (node : ℕ) (own : List Record) (event : Event) (o : Option Ts) → o ≡ stamped graph node own event → IfSome o (λ ts. ts.0 ≤ last_stamp)
 stamp_within graph node own event o is = subst (λ (s : Option Ts). IfSome s (λ ts. ts.0 ≤ last_stamp)) (sym is) (stamps_within graph node own event)
+
+-- all that a record logs, where the barriers after it are within the type
+pub logged_below_end : (graph : Graph) (node : ℕ) (own : List Record) (r : Record) → barrier_at plane.BestEffort graph node (r ∷ own) ≤ 2 ^ 64 - 1
+    → barrier_at plane.Commit graph node (r ∷ own) ≤ 2 ^ 64 - 1 → AreBelow (2 ^ 64 - 1) (logged graph node own r)
+logged_below_end graph node own r best reliable =
+    both_below_end (logged_of BestEffort (passed_in BestEffort graph node own r)) (logged_of Reliable (passed_in Reliable graph node own r))
+    (below_end (barrier_at plane.BestEffort graph node (r ∷ own)) BestEffort (from_barrier (barrier_at plane.BestEffort graph node own) (held BestEffort graph node (r ∷ own))) best)
+    (below_end (barrier_at plane.Commit graph node (r ∷ own)) Reliable (from_barrier (barrier_at plane.Commit graph node own) (held Reliable graph node (r ∷ own))) reliable)

@@ -1,4 +1,5 @@
 pub mod Bounds
 pub mod HeldLaws
 pub mod HostSteps
-pub mod NoScattering
+pub mod RecordLaws
+pub mod SendSteps

@@ -1,19 +1,21 @@
 // What becomes of the message that a packet brings, and how it is held and let go.
-ghost use Rattle.std.specs.Prelude.{◌≡◌, ℕ, Some, OnErr, OnOk};
-ghost use Rattle.pipe_base.specs.declared.message.Service.TheVariants.{BestEffort};
+ghost use Rattle.std.specs.Prelude.{◌≡◌, Some, OnErr, OnOk};
 ghost use Rattle.pipe_base.specs.Messages.{Messages};
-ghost use Rattle.pipe_model.specs.Fate.{fate_for, with_held};
+ghost use Rattle.pipe_model.specs.Fate.{with_held};
 ghost use Rattle.pipe_model.specs.Got.{carries, key_of};
-ghost use Rattle.pipe_host.specs.Host.{IsFresh};
+ghost use Rattle.pipe_host.specs.Buffers.{IsNew};
 
-use pipe_base::{Fate, Key, NoMemory, Packet, PacketKind};
+use pipe_base::{Fate, Key, NoMemory, Packet, PacketKind, Service};
 use pipe_reorder::Reorder;
 
-/// Whether the packet carries a best-effort message.
-pub fn is_message(kind: PacketKind) -> bool
-    ensures { result ≡ carries BestEffort kind }
+/// Whether packets of this kind carry a message of the service.
+pub fn carries(service: Service, kind: PacketKind) -> bool
+    ensures { result ≡ carries service kind }
 {
-    matches!(kind, PacketKind::Plain)
+    match service {
+        Service::BestEffort => matches!(kind, PacketKind::Plain),
+        Service::Reliable => matches!(kind, PacketKind::Prepare),
+    }
 }
 
 pub fn key_of(packet: &Packet) -> Key
@@ -38,7 +40,7 @@ pub fn hold(held: &mut Reorder, fate: Option<Fate>, packet: &Packet) -> Result<(
 
 /// Holds no more what `hold` holds for this packet.
 pub fn let_go(held: &mut Reorder, fate: Option<Fate>, packet: &Packet)
-    ensures { (messages : Messages) → IsFresh fate packet.now messages → held.old.messages ≡ with_held fate (Some packet.now) messages → held.new ≡ record held.old { messages = messages } }
+    ensures { (messages : Messages) → IsNew fate (Some packet.now) messages → held.old.messages ≡ with_held fate (Some packet.now) messages → held.new ≡ record held.old { messages = messages } }
 {
     match fate {
         Some(Fate::Held) => held.unhold(key_of(packet)),

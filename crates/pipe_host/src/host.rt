@@ -1,46 +1,47 @@
 // A host.
-ghost use Rattle.std.specs.Prelude.{◌≡◌, ◌∷◌, ◌<◌, ◌^◌, [], ℕ, Bool, List, true, length, IfOk, OnErr, OnOk, Some};
-ghost use Rattle.pipe_base.specs.declared.message.Service.TheVariants.{BestEffort};
+ghost use Rattle.std.specs.Prelude.{◌≡◌, ◌∷◌, ◌<◌, ◌≤◌, [], ℕ, Bool, List, true, length, IfOk, OnErr, OnOk};
 ghost use Rattle.pipe_base.specs.Graph.{Graph, ins_of, is_host};
+ghost use Rattle.pipe_base.specs.Limits.{most_receivers};
 ghost use Rattle.pipe_base.specs.Moment.{has_link};
 ghost use Rattle.pipe_base.specs.Step.{quiet_step};
 ghost use Rattle.pipe_barrier.specs.Registers as registers;
-ghost use Rattle.pipe_model.specs.declared.event.Event.TheVariants.{Send};
+ghost use Rattle.pipe_links.specs.Links as links;
 ghost use Rattle.pipe_model.specs.declared.record.Record.{Record as ARecord};
 ghost use Rattle.pipe_model.specs.Acting.{ComesIn};
 ghost use Rattle.pipe_model.specs.Clock.{next, promise};
-ghost use Rattle.pipe_model.specs.Fate.{fate_for};
-ghost use Rattle.pipe_model.specs.Fate as fates;
-ghost use Rattle.pipe_model.specs.Moments.{barrier_at, moments_of};
+ghost use Rattle.pipe_model.specs.Moments.{moments_of};
 ghost use Rattle.pipe_model.specs.Run.{IsNodeStep};
-ghost use Rattle.pipe_base.specs.declared.packet.Plane.TheVariants as plane;
-ghost use Rattle.pipe_host.specs.Host.{Does, IsFresh, IsReceipt, Stands, StandsWith, Works, buffer_at, message_in, taken, ticked};
+ghost use Rattle.pipe_model.specs.Sender.{sender_calls};
+ghost use Rattle.pipe_relsend.specs.Sending as sending;
+ghost use Rattle.pipe_host.specs.Host.{Does, Stands, StandsWith, buffer_with};
+ghost use Rattle.pipe_host.specs.Steps.{sent, taken, ticked};
 
-use crate::fates::{hold, is_message, key_of, let_go};
-use crate::times::{deliver, follow};
+use crate::buffers::Buffers;
+use crate::records::{acknowledge, give_back, take_back};
+use crate::times::follow;
 use pipe_barrier::Registers;
-use pipe_base::{
-    DestList, Fate, HostId, KeptStep, LinkId, NoMemory, NodeId, Outcome, Packet, Service, Step, Ts,
-};
-use pipe_clock::{BeSend, ClockEnd, HostClock};
+use pipe_base::{DestList, HostId, LinkId, NoMemory, NodeId, Outcome, Packet, Service, Step, Ts};
+use pipe_clock::HostClock;
 use pipe_links::Links;
 use pipe_model::{Event, Record, Took};
+use pipe_relsend::Sender;
 use pipe_reorder::Reorder;
 use pipe_topo::Topology;
 use std::alloc::Global;
 
-/// A host: the registers of the links into it, its clock, and the messages that it holds. Contracts speak of any records of
-/// its own for which it stands.
+/// A host: the registers of the links into it, its clock, the sender of its reliable scatterings, and the messages that it
+/// holds. Contracts speak of any records of its own for which it stands.
 ///
 /// A step goes in two phases, for a caller that may still refuse it: `work_send`, `work_take` or `work_tick` works it out,
-/// and then either `follow` takes its record over or `undo` gives back what was held for it. `send`, `take` and `tick` are
-/// both phases in one call.
+/// and then either `follow` takes its record over or `undo` gives back what was held or begun for it. `send`, `take` and
+/// `tick` are both phases in one call.
 #[derive(Drop)]
 pub struct Host {
-    alloc: Global,
-    links: Links,
-    clock: HostClock,
-    held: Reorder,
+    pub(crate) alloc: Global,
+    pub(crate) links: Links,
+    pub(crate) clock: HostClock,
+    pub(crate) sender: Sender,
+    pub(crate) held: Buffers,
 }
 
 impl Host {
@@ -54,7 +55,8 @@ impl Host {
             alloc,
             links: Links::new(alloc, topology, NodeId(host.0))?,
             clock: HostClock::new(),
-            held: Reorder::new(alloc, Service::BestEffort),
+            sender: Sender::new(alloc)?,
+            held: Buffers::new(alloc),
         })
     }
 
@@ -76,7 +78,7 @@ impl Host {
     pub fn promise(&self) -> Ts
         ensures { (graph : Graph) (node : ℕ) (own : List ARecord) → Stands graph node own self.now → result.0 ≡ promise graph node own }
     {
-        self.clock.next()
+        self.sender.promise(self.clock.next())
     }
 
     /// The registers of the links into the host.
@@ -87,100 +89,20 @@ impl Host {
         self.links.registers()
     }
 
-    /// The best-effort messages that are held, from the barrier on.
-    pub fn held(&self) -> &Reorder
+    /// The messages of a service that are held, from the barrier of its plane on.
+    pub fn held(&self, service: Service) -> &Reorder
         ensures { (graph : Graph) (node : ℕ) (own : List ARecord) → Stands graph node own self.now
-            → result.now ≡ buffer_at (barrier_at plane.BestEffort graph node own) (fates.held BestEffort graph node own) }
+            → result.now ≡ buffer_with service graph node own own }
     {
-        &self.held
+        self.held.of(service)
     }
 
-    /// Works out what a best-effort send does: a message to each receiver under one stamp, or a refusal where the clock is
-    /// at its end. Nothing changes.
-    pub fn work_send(&self, now: Ts, dests: &DestList) -> Result<KeptStep, NoMemory>
-        requires few { length dests.now < 2 ^ 32 }
-        ensures { IfOk result (λ step. (graph : Graph) (host : HostId) (own : List ARecord) → Stands graph host.0 own self.now
-            → Works graph host.0 own (record { event = Send host BestEffort now dests.now; took = Took.Nothing; step = step }) self.now) }
+    /// The sender: the reliable scatterings that are not settled.
+    pub fn sender(&self) -> &Sender
+        ensures { (graph : Graph) (node : ℕ) (own : List ARecord) → Stands graph node own self.now
+            → sending.Stands (sender_calls graph node own) result.now }
     {
-        let mut clock = self.clock;
-        let stamp = match clock.stamp(now) {
-            Ok(stamp) => stamp,
-            Err(ClockEnd { next }) => return Ok(KeptStep::quiet(Outcome::ClockEnd { next })),
-        };
-        let mut step = Step::new(self.alloc);
-        step.stamped = Some(stamp);
-        let src = HostId(self.links.node().0);
-        let routes = self.links.routes();
-        BeSend::send(dests, src, stamp, clock.next(), routes, &mut step)?;
-        step.keep(self.alloc)
-    }
-
-    /// Works out what a tick does. Nothing changes. Links that were silent for the patience go down, what the barrier passes
-    /// then is logged, and a beacon with the host's promises after that is put on each link out of it.
-    pub fn work_tick(&self, now: Ts) -> Result<KeptStep, NoMemory>
-        ensures { IfOk result (λ step. (graph : Graph) (node : NodeId) (own : List ARecord) → Stands graph node.0 own self.now
-            → Works graph node.0 own (ticked node now step) self.now) }
-    {
-        let mut step = Step::new(self.alloc);
-        step.downed = self.links.silent_marks(self.alloc, now)?;
-        let barriers = self.links.barriers_without(&step.downed)?;
-        self.held.copy_passed(barriers.be, &mut step.logged)?;
-        let mut clock = self.clock;
-        clock.tick(now);
-        deliver(&mut clock, step.logged.as_slice(), barriers.be);
-        let next = clock.next();
-        self.links.put_beacons(self.alloc, next, next, &mut step)?;
-        step.keep(self.alloc)
-    }
-
-    /// Works out what the taking of a packet from a link into the host does. Nothing changes but that the message that the
-    /// packet brings is held, where that is its fate. A packet on a link that is not up is ignored.
-    pub fn work_take(&mut self, link: LinkId, packet: &Packet) -> Result<KeptStep, NoMemory>
-        ensures ok { IfOk result (λ step. (graph : Graph) (node : ℕ) (own : List ARecord) (place : ℕ) (keep : Bool) → Stands graph node own self.old
-            → has_link link.0 (ins_of graph node) ≡ true → Works graph node own (taken link packet.now place keep step) self.new) }
-        ensures err { OnErr result (self.new ≡ self.old) }
-    {
-        if !self.links.is_up(link) {
-            return Ok(KeptStep::quiet(Outcome::Ignored));
-        }
-        let fate = self.fate(packet);
-        hold(&mut self.held, fate, packet)?;
-        match self.receive(link, packet, fate) {
-            Ok(step) => Ok(step),
-            Err(NoMemory) => {
-                let_go(&mut self.held, fate, packet);
-                Err(NoMemory)
-            }
-        }
-    }
-
-    /// What becomes of the message that the packet brings to the host, if it brings one.
-    fn fate(&self, packet: &Packet) -> Option<Fate>
-        ensures value { (graph : Graph) (node : ℕ) (own : List ARecord) (link : LinkId) → Stands graph node own self.now
-            → result ≡ fate_for self.now.held.barrier self.now.held.messages (message_in graph node link packet.now) }
-        ensures fresh { IsFresh result packet.now self.now.held.messages }
-    {
-        if packet.dst.0 == self.links.node().0 && is_message(packet.kind) {
-            Some(self.held.fate(key_of(packet)))
-        } else {
-            None
-        }
-    }
-
-    /// The step of a packet that was received, where its message is held already.
-    fn receive(
-        &self,
-        link: LinkId,
-        packet: &Packet,
-        fate: Option<Fate>,
-    ) -> Result<KeptStep, NoMemory>
-        ensures { IfOk result (IsReceipt self.now link packet.now fate) }
-    {
-        let barriers = self.links.barriers_with(link, packet);
-        let mut step = Step::new(self.alloc);
-        step.fate = fate;
-        self.held.copy_passed(barriers.be, &mut step.logged)?;
-        step.keep(self.alloc)
+        &self.sender
     }
 
     /// Takes over the record of a step that was worked out. Takes no memory.
@@ -189,23 +111,22 @@ impl Host {
             → ComesIn graph node «record».now.event → IsNodeStep graph node own «record».now
             → Stands graph node («record».now ∷ own) self.new }
     {
+        acknowledge(&mut self.sender, &self.links, record);
         self.links.follow(record);
-        let barrier = self.links.barriers().be;
-        follow(&mut self.clock, record, barrier);
-        self.held.drop_passed(barrier);
+        follow(&mut self.clock, record);
+        self.held.drop_passed(self.links.barriers());
     }
 
-    /// Gives back what was held for a step that was worked out and is refused. Takes no memory.
+    /// Gives back what was held or begun for a step that was worked out and is refused. Takes no memory.
     pub fn undo(&mut self, record: &Record)
         ensures { (graph : Graph) (node : ℕ) (own : List ARecord) → StandsWith graph node own «record».now self.old
             → IsNodeStep graph node own «record».now → Stands graph node own self.new }
     {
-        if let Took::Link { packet, .. } = &record.took {
-            let_go(&mut self.held, record.step.fate(), packet);
-        }
+        give_back(&mut self.held, record);
+        take_back(&mut self.sender, record);
     }
 
-    /// Sends a best-effort scattering. The step is empty first, and after want of memory, which changes nothing.
+    /// Sends a scattering. The step is empty first, and after want of memory, which changes nothing.
     pub fn send(
         &mut self,
         service: Service,
@@ -213,14 +134,14 @@ impl Host {
         dests: DestList,
         step: &mut Step,
     ) -> Result<(), NoMemory>
-        requires built { service ≡ BestEffort }
-        requires few { length dests < 2 ^ 32 }
+        requires some { 0 < length dests }
+        requires few { length dests ≤ most_receivers }
         ensures ok { OnOk result ((graph : Graph) (host : HostId) (own : List ARecord) → Stands graph host.0 own self.old
-            → Does graph host.0 own (record { event = Send host service now dests; took = Took.Nothing; step = step.new }) self.new) }
+            → Does graph host.0 own (sent host service now dests step.new) self.new) }
         ensures err { OnErr result ((self.new ≡ self.old) × (step.new ≡ quiet_step Outcome.Ok)) }
     {
         *step = Step::new(self.alloc);
-        let worked = self.work_send(now, &dests)?;
+        let worked = self.work_send(service, now, &dests)?;
         let record = Record {
             event: Event::Send {
                 host: HostId(self.links.node().0),
@@ -286,6 +207,7 @@ impl Host {
             alloc: self.alloc,
             links: self.links.try_clone()?,
             clock: self.clock,
+            sender: self.sender.try_clone()?,
             held: self.held.try_clone()?,
         })
     }

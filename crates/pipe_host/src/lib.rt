@@ -1,8 +1,14 @@
-//! One host: it stamps what it sends, holds what it receives until the barrier passes it, and logs that in the total order.
+//! One host: it stamps what it sends, puts again what is not acknowledged, holds what it receives until the barrier of its
+//! plane passes it, and logs that in the total order.
 #![tactic(auto)]
 
+mod buffers;
 mod fates;
 mod host;
+mod records;
+mod sending;
+mod taking;
+mod ticking;
 mod times;
 
 pub use host::Host;

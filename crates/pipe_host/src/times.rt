@@ -1,5 +1,5 @@
 // How a host's clock follows what the host did.
-ghost use Rattle.std.specs.Prelude.{◌≡◌, ◌≤◌, max, IfSome};
+ghost use Rattle.std.specs.Prelude.{◌≡◌, ◌≤◌, ◌-◌, ◌^◌, max, IfSome};
 ghost use Rattle.pipe_base.specs.Clock.{after_logged, after_stamp, next_after};
 ghost use Rattle.pipe_base.specs.Limits.{last_stamp};
 ghost use Rattle.pipe_base.specs.Messages.{AreBelow};
@@ -9,23 +9,23 @@ use pipe_base::{Entry, Service, Ts};
 use pipe_clock::HostClock;
 use pipe_model::{Event, Record};
 
-/// The clock is above all that was logged, which is below a barrier.
-pub fn deliver(clock: &mut HostClock, logged: &[(Service, Entry)], barrier: Ts)
-    ensures { AreBelow barrier.0 logged.now → clock.new.next.0 ≡ max clock.old.next.0 (after_logged logged.now) }
+/// The clock is above all that was logged, which is below the end of the type.
+pub fn deliver(clock: &mut HostClock, logged: &[(Service, Entry)])
+    ensures { AreBelow (2 ^ 64 - 1) logged.now → clock.new.next.0 ≡ max clock.old.next.0 (after_logged logged.now) }
 {
     'entries: for (_, entry) in logged {
         clock.delivered(entry.key.ts);
     }
 }
 
-/// The clock follows a record of its host, which logged below a barrier.
-pub fn follow(clock: &mut HostClock, record: &Record, barrier: Ts)
-    ensures { AreBelow barrier.0 «record».now.step.logged → IfSome «record».now.step.stamped (λ ts. ts.0 ≤ last_stamp)
+/// The clock follows a record of its host, which logged below the end of the type.
+pub fn follow(clock: &mut HostClock, record: &Record)
+    ensures { AreBelow (2 ^ 64 - 1) «record».now.step.logged → IfSome «record».now.step.stamped (λ ts. ts.0 ≤ last_stamp)
         → clock.new.next.0 ≡ next_after clock.old.next.0 (tick_reading «record».now.event) «record».now.step.stamped «record».now.step.logged }
 {
     read(clock, &record.event);
     stamp(clock, record.step.stamped());
-    deliver(clock, record.step.logged(), barrier);
+    deliver(clock, record.step.logged());
 }
 
 /// The clock is at least the reading of a tick.

@@ -1,30 +1,30 @@
 -- That the steps of a half are what it owes.
-use Rattle.std.proofs.Common.{◌≡◌, ℕ, ◌&&◌, not, if◌then◌else◌, Bool, true, false, List, [], ◌∷◌, ◌++◌, map, filter, Option, None, Some, refl, sym, subst, ap, ◌∙◌, append-nil, zero-add}
+use Rattle.std.proofs.Common.{◌≡◌, ℕ, ◌&&◌, if◌then◌else◌, Bool, true, false, List, [], ◌∷◌, ◌++◌, map, filter, Option, None, Some, refl, sym, subst, ap, ◌∙◌, append-nil, zero-add}
 use Rattle.pipe_base.specs.declared.name.LinkId.{LinkId}
 use Rattle.pipe_base.specs.declared.name.NodeId.{NodeId}
 use Rattle.pipe_base.specs.declared.name.Ts.{Ts}
 use Rattle.pipe_base.specs.declared.packet.Packet.{Packet}
 use Rattle.pipe_base.specs.declared.packet.Plane.TheVariants as plane
-use Rattle.pipe_base.specs.declared.step.Outcome.{Outcome}
 use Rattle.pipe_base.specs.declared.step.Outcome.TheVariants.{Ok, Ignored}
 use Rattle.pipe_base.specs.declared.step.Step.{Step}
 use Rattle.pipe_base.specs.Barrier.{barrier}
 use Rattle.pipe_base.specs.Graph.{Graph, ins_of, is_half, is_host, outs_of}
 use Rattle.pipe_base.specs.Moment.{Moment, Received, is_up, with_received, with_downed}
-use Rattle.pipe_base.specs.Packets.{Fields, beacon, forwarded}
+use Rattle.pipe_base.specs.Packets.{Fields, beacon}
+use Rattle.pipe_base.specs.Resends.{resends}
 use Rattle.pipe_base.specs.ShortestRoute.{not_dropped, route}
 use Rattle.pipe_base.specs.Silence.{silent_marks}
 use Rattle.pipe_base.specs.Step.{quiet_step}
 use Rattle.pipe_base.specs.Ways.{lost, routed, with_beacons, with_ways}
 use Rattle.pipe_barrier.specs.declared.registers.Barriers.{Barriers}
 use Rattle.pipe_barrier.specs.Registers.{AreBarriers}
-use Rattle.pipe_model.specs.declared.event.Event.TheVariants.{Take, Tick}
 use Rattle.pipe_model.specs.declared.record.Record.{Record}
-use Rattle.pipe_model.specs.declared.record.Took.TheVariants.{Nothing, Link}
-use Rattle.pipe_model.specs.Duties.{fields, owed_by_take}
+use Rattle.pipe_model.specs.Duties.{beacons, fields, owed_by_half, owed_by_host, owed_by_take, owed_by_tick}
+use Rattle.pipe_model.specs.Got.{gets}
 use Rattle.pipe_model.specs.Moments.{barrier_at, known_drops, moments_of, quiet_calls, received}
 use Rattle.pipe_model.specs.Run.{IsNodeStep}
-use Rattle.pipe_model.proofs.Steps.{holds_nothing, no_drop, no_fate, no_host, no_log, taken_ignored, taken_received}
+use Rattle.pipe_model.specs.Sender.{sender_calls}
+use Rattle.pipe_model.proofs.Steps.{no_drop, no_fate, no_host, no_log, taken_ignored, taken_received}
 use Rattle.pipe_switch.specs.Half.{passed_on, taken, ticked}
 
 -- whether the link is up, from what the walk over the in-links tells
@@ -40,6 +40,10 @@ ignored_where_down : (b : Bool) → b ≡ false → Ignored ≡ (if b then Ok el
 ignored_where_down true is = cc
 ignored_where_down false is = refl
 
+chosen : {A : Type 0} (t : Bool) (x y : A) → t ≡ false → (if t then x else y) ≡ y
+chosen true x y is = cc
+chosen false x y is = refl
+
 -- the fields of a half are its barriers
 half_fields : (t : Bool) (f : Fields) (be commit : ℕ) (b : Barriers) → t ≡ false → be ≡ b.be.0 → commit ≡ b.commit.0
     → (if t then f else record { be = be; commit = commit }) ≡ record { be = b.be.0; commit = b.commit.0 }
@@ -53,12 +57,19 @@ fields_are graph node own r moments b half moments_are are =
     (ap (barrier plane.BestEffort (ins_of graph node)) moments_are ∙ sym are.be_is)
     (ap (barrier plane.Commit (ins_of graph node)) moments_are ∙ sym are.commit_is)
 
+-- a half owes what it received, but no beacon
+owed_at_half : (graph : Graph) (node : ℕ) (own : List Record) (r : Record) (f : Fields) → is_half graph node ≡ true → owed_by_take graph node f own r ≡ owed_by_half f (received own r)
+owed_at_half graph node own r f half =
+    chosen {A = List Packet} (is_host graph node) (owed_by_host node f r.step.fate (gets graph node own r)) (owed_by_half f (received own r)) (no_host graph node half)
+
 -- a packet on a link that is not up
 pub ignores : (graph : Graph) (node : ℕ) (own : List Record) (link : LinkId) (p : Packet) (place : ℕ) (keep : Bool) → is_half graph node ≡ true
     → is_up (moments_of own) link.0 ≡ false → IsNodeStep graph node own (taken link p place keep (quiet_step Ignored))
 ignores graph node own link p place keep half down =
     let r : Record = taken link p place keep (quiet_step Ignored) in
     let none : received own r ≡ None = taken_ignored (moments_of own) link p place keep down in
+    let f : Fields = fields graph node own r in
+    let owes : owed_by_take graph node f own r ≡ [] = owed_at_half graph node own r f half ∙ ap (owed_by_half f) none in
     record {
       outcome_is = ignored_where_down (is_up (moments_of own) link.0) down;
       downed_is = refl;
@@ -68,15 +79,10 @@ ignores graph node own link p place keep half down =
       fate_is = no_fate graph node own r (no_host graph node half);
       logged_is = no_log graph node own r (no_host graph node half);
       put_is =
-          sym (append-nil (routed (route graph (known_drops (r ∷ own)) node) (owed_by_take graph node (fields graph node own r) (received own r)))
-          ∙ ap (λ (o : Option (ℕ × Packet)). routed (route graph (known_drops (r ∷ own)) node) (owed_by_take graph node (fields graph node own r) o)) none);
-      unrouted_is = ap (λ (o : Option (ℕ × Packet)). lost (route graph (known_drops (r ∷ own)) node) (owed_by_take graph node (fields graph node own r) o)) (sym none);
+          sym (append-nil (routed (route graph (known_drops (r ∷ own)) node) (owed_by_take graph node f own r)) ∙ ap (routed (route graph (known_drops (r ∷ own)) node)) owes);
+      unrouted_is = ap (lost (route graph (known_drops (r ∷ own)) node)) (sym owes);
       control_is = refl;
     }
-
-owed_by_half : (t : Bool) (x : Bool) (ps : List Packet) → t ≡ true → (if t && x then ps else []) ≡ (if x then ps else [])
-owed_by_half true x ps is = refl
-owed_by_half false x ps is = cc
 
 -- a packet that is received and goes on
 pub passes : (graph : Graph) (node : ℕ) (own : List Record) (link : LinkId) (p : Packet) (place : ℕ) (keep : Bool) (b : Barriers) (step : Step) → is_half graph node ≡ true
@@ -91,10 +97,8 @@ passes graph node own link p place keep b step half drops up are step_is =
     ap (λ (o : Option (ℕ × Packet)). with_received true o (moments_of own)) got in
     let fields_is : fields graph node own r ≡ f = fields_are graph node own r (Received link.0 p.be.0 p.commit.0 ∷ moments_of own) b half moments_are are in
     let drops_now : known_drops (r ∷ own) ≡ [] = ap (λ (ls : List LinkId). ls ++ []) drops in
-    let owes : owed_by_take graph node (fields graph node own r) (received own r) ≡ passed_on b p =
-    ap (λ (o : Option (ℕ × Packet)). owed_by_take graph node (fields graph node own r) o) got
-    ∙ ap (λ (g : Fields). owed_by_take graph node g (Some (link.0, p))) fields_is
-    ∙ owed_by_half (is_half graph node) _ (forwarded f p ∷ []) half in
+    let owes : owed_by_take graph node (fields graph node own r) own r ≡ passed_on b p =
+    owed_at_half graph node own r (fields graph node own r) half ∙ ap (owed_by_half (fields graph node own r)) got ∙ ap (λ (g : Fields). owed_by_half g (Some (link.0, p))) fields_is in
     subst (λ (x : Step). IsNodeStep graph node own (taken link p place keep x)) (sym step_is)
     (record {
       outcome_is = ok_where_up (is_up (moments_of own) link.0) up;
@@ -105,12 +109,12 @@ passes graph node own link p place keep b step half drops up are step_is =
       fate_is = no_fate graph node own r (no_host graph node half);
       logged_is = no_log graph node own r (no_host graph node half);
       put_is =
-          sym (append-nil (routed (route graph (known_drops (r ∷ own)) node) (owed_by_take graph node (fields graph node own r) (received own r)))
-          ∙ ap (λ (ls : List LinkId). routed (route graph ls node) (owed_by_take graph node (fields graph node own r) (received own r))) drops_now
+          sym (append-nil (routed (route graph (known_drops (r ∷ own)) node) (owed_by_take graph node (fields graph node own r) own r))
+          ∙ ap (λ (ls : List LinkId). routed (route graph ls node) (owed_by_take graph node (fields graph node own r) own r)) drops_now
           ∙ ap (routed (route graph [] node)) owes);
       unrouted_is =
           zero-add (lost (route graph [] node) (passed_on b p))
-          ∙ sym (ap (λ (ls : List LinkId). lost (route graph ls node) (owed_by_take graph node (fields graph node own r) (received own r))) drops_now
+          ∙ sym (ap (λ (ls : List LinkId). lost (route graph ls node) (owed_by_take graph node (fields graph node own r) own r)) drops_now
           ∙ ap (lost (route graph [] node)) owes);
       control_is = refl;
     })
@@ -127,6 +131,8 @@ ticks graph node own now marks b step half drops marks_are are step_is =
     let r : Record = ticked node now s in
     let fields_is : fields graph node.0 own r ≡ f = fields_are graph node.0 own r (with_downed marks (moments_of own)) b half refl are in
     let drops_now : known_drops (r ∷ own) ≡ [] = ap (λ (ls : List LinkId). ls ++ []) drops in
+    let nothing : owed_by_tick graph node.0 (fields graph node.0 own r) (sender_calls graph node.0 (r ∷ own)) ≡ [] =
+    chosen {A = List Packet} (is_host graph node.0) (resends (sender_calls graph node.0 (r ∷ own)) (record { 0 = node.0 }) (fields graph node.0 own r)) [] (no_host graph node.0 half) in
     subst (λ (x : Step). IsNodeStep graph node.0 own (ticked node now x)) (sym step_is)
     (record {
       outcome_is = refl;
@@ -137,9 +143,10 @@ ticks graph node own now marks b step half drops marks_are are step_is =
       fate_is = no_fate graph node.0 own r (no_host graph node.0 half);
       logged_is = no_log graph node.0 own r (no_host graph node.0 half);
       put_is =
-          sym (ap (λ (g : Fields). map (λ (l : LinkId). (l, beacon g)) (filter (λ (l : LinkId). not_dropped (known_drops (r ∷ own)) l.0) (outs_of graph node.0))) fields_is
+          sym (ap (λ (ps : List Packet). routed (route graph (known_drops (r ∷ own)) node.0) ps ++ beacons graph node.0 own r) nothing
+          ∙ ap (λ (g : Fields). map (λ (l : LinkId). (l, beacon g)) (filter (λ (l : LinkId). not_dropped (known_drops (r ∷ own)) l.0) (outs_of graph node.0))) fields_is
           ∙ ap (λ (ls : List LinkId). map (λ (l : LinkId). (l, beacon f)) (filter (λ (l : LinkId). not_dropped ls l.0) (outs_of graph node.0))) drops_now
           ∙ ap (map (λ (l : LinkId). (l, beacon f))) (no_drop (outs_of graph node.0)));
-      unrouted_is = refl;
+      unrouted_is = ap (lost (route graph (known_drops (r ∷ own)) node.0)) (sym nothing);
       control_is = refl;
     })

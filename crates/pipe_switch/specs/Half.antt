@@ -1,5 +1,5 @@
 -- What a half of a switch keeps, and what it stands for.
-use Rattle.std.specs.Prelude.{◌≡◌, ℕ, not, if◌then◌else◌, Bool, true, List, [], ◌∷◌}
+use Rattle.std.specs.Prelude.{◌≡◌, ℕ, if◌then◌else◌, Bool, true, List, [], ◌∷◌}
 use Rattle.pipe_base.specs.declared.name.LinkId.{LinkId}
 use Rattle.pipe_base.specs.declared.name.NodeId.{NodeId}
 use Rattle.pipe_base.specs.declared.name.Ts.{Ts}
@@ -38,7 +38,7 @@ ticked node now step = record { event = Tick node now; took = Nothing; step = st
 
 -- the packets that a half owes for a packet that it received: a beacon goes no further
 abbrev pub passed_on : Barriers → Packet → List Packet
-passed_on b p = if not (is_beacon p.kind) then forwarded (record { be = b.be.0; commit = b.commit.0 }) p ∷ [] else []
+passed_on b p = if is_beacon p.kind then [] else forwarded (record { be = b.be.0; commit = b.commit.0 }) p ∷ []
 
 -- the step of a received packet: it goes on with the barriers that it leads to
 pub record IsPassing (k : Half) (link : LinkId) (p : Packet) (step : Step) : Type 0 where

@@ -1,6 +1,7 @@
 use Rattle.std.proofs.Common.{false, sym, subst}
 use Rattle.pipe_base.specs.declared.step.Step.{Step}
-use Rattle.pipe_host.specs.Host.{Does, taken}
+use Rattle.pipe_host.specs.Host.{Does}
+use Rattle.pipe_host.specs.Steps.{taken}
 use Rattle.pipe_host.proofs.host.Host.take.Goals as goal
 
 -- the place and what is kept make no difference to what the host keeps
@@ -22,7 +23,7 @@ returns-clause-ok c = λ graph node own place keep stands comes.
           no_drops = links.no_drops;
         };
         next_is = after.next_is;
-        held_is = after.held_is;
-        none_begun = after.none_begun;
+        held_are = after.held_are;
+        sender_is = after.sender_is;
       };
     })

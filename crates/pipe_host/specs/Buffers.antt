@@ -1,0 +1,49 @@
+-- The held messages of both services.
+use Rattle.std.specs.Prelude.{◌≡◌, false, List, ◌++◌, Option, Some}
+use Rattle.std.specs.Option.{option_or}
+use Rattle.pipe_base.specs.declared.message.Entry.{Entry}
+use Rattle.pipe_base.specs.declared.message.Service.{Service}
+use Rattle.pipe_base.specs.declared.message.Service.TheVariants.{BestEffort, Reliable}
+use Rattle.pipe_base.specs.declared.packet.Packet.{Packet}
+use Rattle.pipe_base.specs.declared.step.Fate.{Fate}
+use Rattle.pipe_base.specs.declared.step.Fate.TheVariants.{Held}
+use Rattle.pipe_base.specs.Messages.{Messages, has_key}
+use Rattle.pipe_barrier.specs.declared.registers.Barriers.{Barriers}
+use Rattle.pipe_model.specs.Fate.{fate_for, with_held}
+use Rattle.pipe_model.specs.Got.{key_of, message_of}
+use Rattle.pipe_reorder.specs.Buffer.{Buffer, left_by, passed_by}
+use Rattle.pipe_host.specs.declared.buffers.Buffers.{Buffers}
+
+-- the buffer of a service
+abbrev pub buffer_of : Service → Buffers → Buffer
+buffer_of BestEffort buffers = buffers.best
+buffer_of Reliable buffers = buffers.reliable
+
+-- the fate of the message that a host gets, of whichever service
+abbrev pub fate_among : Buffers → Option Packet → Option Fate
+fate_among buffers got =
+    option_or (fate_for buffers.best.barrier buffers.best.messages (message_of BestEffort got))
+    (fate_for buffers.reliable.barrier buffers.reliable.messages (message_of Reliable got))
+
+-- the buffer of a service, and in it the message of a packet that has the fate held
+abbrev pub joined : Service → Option Fate → Packet → Buffer → Buffer
+joined service fate p buffer = record buffer { messages = with_held fate (message_of service (Some p)) buffer.messages }
+
+abbrev pub all_joined : Option Fate → Packet → Buffers → Buffers
+all_joined fate p buffers = record { best = joined BestEffort fate p buffers.best; reliable = joined Reliable fate p buffers.reliable }
+
+-- a message with the fate held was not among these
+abbrev pub IsNew : Option Fate → Option Packet → Messages → Type 0
+IsNew (Some Held) (Some p) messages = has_key (key_of p) messages ≡ false
+IsNew _ _ messages = Unit {0}
+
+abbrev pub IsFresh : Option Fate → Packet → Buffers → Type 0
+IsFresh fate p buffers = (service : Service) → IsNew fate (message_of service (Some p)) (buffer_of service buffers).messages
+
+-- what two barriers let out, best effort first
+abbrev pub logged_by : Barriers → Buffers → List (Service × Entry)
+logged_by b buffers = passed_by b.be.0 buffers.best ++ passed_by b.commit.0 buffers.reliable
+
+-- what they leave
+abbrev pub all_left : Barriers → Buffers → Buffers
+all_left b buffers = record { best = left_by b.be.0 buffers.best; reliable = left_by b.commit.0 buffers.reliable }

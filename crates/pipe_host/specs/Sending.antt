@@ -1,0 +1,54 @@
+-- What a host works out of a send, and what a record does to its sender.
+use Rattle.std.specs.Prelude.{◌≡◌, ℕ, ◌+◌, ◌≤◌, nat_le, Bool, true, false, List, [], ◌∷◌, ◌++◌, length, Option, None, Some}
+use Rattle.pipe_base.specs.declared.message.Service.{Service}
+use Rattle.pipe_base.specs.declared.message.Service.TheVariants.{BestEffort, Reliable}
+use Rattle.pipe_base.specs.declared.name.HostId.{HostId}
+use Rattle.pipe_base.specs.declared.name.Ts.{Ts}
+use Rattle.pipe_base.specs.declared.step.Outcome.{Outcome}
+use Rattle.pipe_base.specs.Clock.{stamp_at}
+use Rattle.pipe_base.specs.Limits.{last_stamp, most_unsettled}
+use Rattle.pipe_base.specs.Scattering.{SenderCall, Acked}
+use Rattle.pipe_model.specs.declared.event.Event.{Event}
+use Rattle.pipe_model.specs.declared.event.Event.TheVariants.{Send}
+use Rattle.pipe_model.specs.OwnOutcome.{send_outcome, where_ok}
+use Rattle.pipe_relsend.specs.Preparation.{Preparation, started}
+use Rattle.pipe_relsend.specs.Sending.{first_or}
+use Rattle.pipe_host.specs.declared.host.Host.{Host}
+use Rattle.pipe_host.specs.declared.sending.Stamp.{Stamp}
+
+-- a reliable send finds the window full
+abbrev pub is_full : Service → List Preparation → Bool
+is_full BestEffort pending = false
+is_full Reliable pending = nat_le most_unsettled (length pending)
+
+-- the promise after a send with this stamp: a reliable one is not settled
+abbrev pub promise_with : Service → ℕ → List Preparation → ℕ
+promise_with BestEffort stamp pending = first_or (stamp + 1) pending
+promise_with Reliable stamp pending = first_or stamp pending
+
+-- the scatterings with one that is begun, where the send is reliable
+abbrev pub begun_by : Service → Ts → List (HostId × List ℕ) → List Preparation → List Preparation
+begun_by BestEffort ts dests pending = pending
+begun_by Reliable ts dests pending = pending ++ started ts dests ∷ []
+
+-- the send is stamped, and this is the promise after it
+pub record IsStamped (k : Host) (service : Service) (now : Ts) (s : Stamp) : Type 0 where
+  pub room : is_full service k.sender ≡ false
+  pub stamp_is : s.ts.0 ≡ stamp_at now.0 k.clock.next.0
+  pub within : s.ts.0 ≤ last_stamp
+  pub promise_is : s.promise.0 ≡ promise_with service s.ts.0 k.sender
+
+-- the send is refused with this outcome
+pub record IsRefused (k : Host) (service : Service) (now : Ts) (outcome : Outcome) : Type 0 where
+  pub outcome_is : outcome ≡ send_outcome None (is_full service k.sender) now.0 k.clock.next.0
+  pub unstamped : (stamp : ℕ) → where_ok outcome stamp ≡ None
+
+-- an acknowledgement that a record brings
+abbrev pub with_ack : Option (Ts × HostId) → List SenderCall → List SenderCall
+with_ack None calls = calls
+with_ack (Some ack) calls = Acked ack.0.0 ack.1.0 ∷ calls
+
+-- a reliable send that was stamped
+abbrev pub has_begun : Event → Option Ts → Bool
+has_begun (Send host Reliable now dests) (Some ts) = true
+has_begun _ _ = false

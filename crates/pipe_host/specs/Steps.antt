@@ -1,0 +1,67 @@
+-- What a host works out of a send, a packet and a tick, in terms of what it keeps.
+use Rattle.std.specs.Prelude.{◌≡◌, ℕ, ◌&&◌, if◌then◌else◌, Bool, max, List, [], ◌∷◌, Option}
+use Rattle.pipe_base.specs.declared.message.Entry.{Entry}
+use Rattle.pipe_base.specs.declared.message.Service.{Service}
+use Rattle.pipe_base.specs.declared.message.Service.TheVariants.{Reliable}
+use Rattle.pipe_base.specs.declared.name.HostId.{HostId}
+use Rattle.pipe_base.specs.declared.name.LinkId.{LinkId}
+use Rattle.pipe_base.specs.declared.name.NodeId.{NodeId}
+use Rattle.pipe_base.specs.declared.name.Ts.{Ts}
+use Rattle.pipe_base.specs.declared.packet.Packet.{Packet}
+use Rattle.pipe_base.specs.declared.step.Fate.{Fate}
+use Rattle.pipe_base.specs.declared.step.Outcome.TheVariants.{Ok}
+use Rattle.pipe_base.specs.declared.step.Step.{Step}
+use Rattle.pipe_base.specs.Clock.{after_logged}
+use Rattle.pipe_base.specs.Fate.{is_holding}
+use Rattle.pipe_base.specs.Graph.{Graph, ins_of}
+use Rattle.pipe_base.specs.Moment.{Received}
+use Rattle.pipe_base.specs.Packets.{Fields, ack_to}
+use Rattle.pipe_base.specs.ShortestRoute.{route}
+use Rattle.pipe_base.specs.Step.{quiet_step}
+use Rattle.pipe_base.specs.Ways.{with_ways}
+use Rattle.pipe_barrier.specs.declared.registers.Barriers.{Barriers}
+use Rattle.pipe_barrier.specs.Registers.{AreBarriers}
+use Rattle.pipe_links.specs.Links as links
+use Rattle.pipe_model.specs.declared.event.Event.TheVariants.{Send, Take, Tick}
+use Rattle.pipe_model.specs.declared.record.Record.{Record}
+use Rattle.pipe_model.specs.declared.record.Took.TheVariants.{Link, Nothing}
+use Rattle.pipe_model.specs.Got.{carries}
+use Rattle.pipe_model.specs.Moments.{moments_of}
+use Rattle.pipe_relsend.specs.Preparation.{Preparation}
+use Rattle.pipe_relsend.specs.Sending.{first_or}
+use Rattle.pipe_host.specs.declared.host.Host.{Host}
+use Rattle.pipe_host.specs.Buffers.{logged_by}
+
+-- a host sends a scattering of a service
+abbrev pub sent : HostId → Service → Ts → List (HostId × List ℕ) → Step → Record
+sent host service now dests step = record { event = Send host service now dests; took = Nothing; step = step }
+
+-- a packet was taken from a link
+abbrev pub taken : LinkId → Packet → ℕ → Bool → Step → Record
+taken link p place keep step = record { event = Take link place keep; took = Link link p; step = step }
+
+-- a node's clock read this
+abbrev pub ticked : NodeId → Ts → Step → Record
+ticked node now step = record { event = Tick node now; took = Nothing; step = step }
+
+-- the two barriers of a host's packets, with this next timestamp
+abbrev pub fields_at : ℕ → List Preparation → Fields
+fields_at next pending = record { be = next; commit = first_or next pending }
+
+-- the same after a step that logged these entries
+abbrev pub fields_after : List (Service × Entry) → Host → Fields
+fields_after log k = fields_at (max k.clock.next.0 (after_logged log)) k.sender
+
+-- a reliable message with this fate is held, so it is acknowledged
+abbrev pub acks_for : HostId → Fields → Option Fate → Packet → List Packet
+acks_for host f fate p = if carries Reliable p.kind && is_holding fate then ack_to host f p ∷ [] else []
+
+-- The step of a received packet with this fate, where its message is held already: what the barriers pass is logged, and a
+-- reliable message that is held is acknowledged.
+pub record IsReceipt (k : Host) (link : LinkId) (p : Packet) (fate : Option Fate) (step : Step) : Type 0 where
+  pub barriers : Barriers
+  pub barriers_are : (graph : Graph) (node : ℕ) (own : List Record) → links.Stands graph node own k.links
+      → AreBarriers (ins_of graph node) (Received link.0 p.be.0 p.commit.0 ∷ moments_of own) barriers
+  pub step_is : (graph : Graph) (node : ℕ) (own : List Record) → links.Stands graph node own k.links
+      → step ≡ with_ways (route graph [] node) (acks_for (record { 0 = node }) (fields_after (logged_by barriers k.held) k) fate p)
+      (record (quiet_step Ok) { fate = fate; logged = logged_by barriers k.held })

@@ -1,0 +1,107 @@
+// The messages that a host holds, of both services.
+ghost use Rattle.std.specs.Prelude.{◌≡◌, ◌++◌, ◌-◌, ◌^◌, Some, IfOk, OnErr, OnOk};
+ghost use Rattle.pipe_base.specs.declared.message.Service.TheVariants.{BestEffort, Reliable};
+ghost use Rattle.pipe_base.specs.Messages.{AreBelow};
+ghost use Rattle.pipe_reorder.specs.Buffer.{empty_buffer, passed_by};
+ghost use Rattle.pipe_host.specs.declared.buffers.Buffers.{Buffers as ABuffers};
+ghost use Rattle.pipe_host.specs.Buffers.{IsFresh, all_joined, all_left, buffer_of, fate_among};
+
+use crate::fates::{self, carries, key_of};
+use pipe_barrier::Barriers;
+use pipe_base::{Fate, LoggedList, NoMemory, Packet, Service};
+use pipe_reorder::Reorder;
+use std::alloc::Global;
+
+/// A buffer for each service.
+#[derive(Drop)]
+pub struct Buffers {
+    best: Reorder,
+    reliable: Reorder,
+}
+
+impl Buffers {
+    /// Buffers that hold nothing. Takes no memory.
+    pub fn new(alloc: Global) -> Buffers
+        ensures { result ≡ record { best = empty_buffer BestEffort; reliable = empty_buffer Reliable } }
+    {
+        Buffers {
+            best: Reorder::new(alloc, Service::BestEffort),
+            reliable: Reorder::new(alloc, Service::Reliable),
+        }
+    }
+
+    /// The buffer of a service.
+    pub fn of(&self, service: Service) -> &Reorder
+        ensures { result.now ≡ buffer_of service self.now }
+    {
+        match service {
+            Service::BestEffort => &self.best,
+            Service::Reliable => &self.reliable,
+        }
+    }
+
+    /// What becomes of the message of a packet that comes now, if it carries one.
+    pub fn fate(&self, packet: &Packet) -> Option<Fate>
+        ensures value { result ≡ fate_among self.now (Some packet.now) }
+        ensures fresh { IsFresh result packet.now self.now }
+    {
+        if carries(Service::BestEffort, packet.kind) {
+            Some(self.best.fate(key_of(packet)))
+        } else if carries(Service::Reliable, packet.kind) {
+            Some(self.reliable.fate(key_of(packet)))
+        } else {
+            None
+        }
+    }
+
+    /// Holds the message of a packet whose fate is held.
+    pub fn hold(&mut self, fate: Option<Fate>, packet: &Packet) -> Result<(), NoMemory>
+        ensures ok { OnOk result (self.new ≡ all_joined fate packet.now self.old) }
+        ensures err { OnErr result (self.new ≡ self.old) }
+    {
+        if carries(Service::BestEffort, packet.kind) {
+            fates::hold(&mut self.best, fate, packet)
+        } else if carries(Service::Reliable, packet.kind) {
+            fates::hold(&mut self.reliable, fate, packet)
+        } else {
+            Ok(())
+        }
+    }
+
+    /// Holds no more what `hold` holds for this packet. Takes no memory.
+    pub fn let_go(&mut self, fate: Option<Fate>, packet: &Packet)
+        ensures { (before : ABuffers) → IsFresh fate packet.now before → self.old ≡ all_joined fate packet.now before → self.new ≡ before }
+    {
+        if carries(Service::BestEffort, packet.kind) {
+            fates::let_go(&mut self.best, fate, packet);
+        } else if carries(Service::Reliable, packet.kind) {
+            fates::let_go(&mut self.reliable, fate, packet);
+        }
+    }
+
+    /// Appends the held messages below the barrier of their service, best effort first.
+    pub fn copy_passed(&self, barriers: Barriers, out: &mut LoggedList) -> Result<(), NoMemory>
+        ensures ok { OnOk result (out.new ≡ (out.old ++ passed_by barriers.be.0 self.now.best) ++ passed_by barriers.commit.0 self.now.reliable) }
+        ensures within { OnOk result (AreBelow (2 ^ 64 - 1) out.old → AreBelow (2 ^ 64 - 1) out.new) }
+    {
+        self.best.copy_passed(barriers.be, out)?;
+        self.reliable.copy_passed(barriers.commit, out)
+    }
+
+    /// Holds the messages below the barrier of their service no more. Takes no memory.
+    pub fn drop_passed(&mut self, barriers: Barriers)
+        ensures { self.new ≡ all_left barriers self.old }
+    {
+        self.best.drop_passed(barriers.be);
+        self.reliable.drop_passed(barriers.commit);
+    }
+
+    pub fn try_clone(&self) -> Result<Buffers, NoMemory>
+        ensures { IfOk result (λ copy. copy ≡ self.now) }
+    {
+        Ok(Buffers {
+            best: self.best.try_clone()?,
+            reliable: self.reliable.try_clone()?,
+        })
+    }
+}
