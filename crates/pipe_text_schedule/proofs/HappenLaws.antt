@@ -1,5 +1,5 @@
 -- Each event of a schedule can happen in the network.
-use Rattle.std.proofs.Common.{◌≡◌, ◌≢◌, ℕ, ◌+◌, ◌-◌, ◌*◌, ◌<◌, ◌≤◌, ◌==◌, nat_lt, Bool, true, false, ◌||◌, if◌then◌else◌, List, [], ◌∷◌, ◌++◌, length, drop, take, All, AllPairs, Option, Some, None, IfSome, Result, Ok, Err, refl, sym, subst, arith, position, bytes_eq, codes, length-append}
+use Rattle.std.proofs.Common.{◌≡◌, ◌≢◌, ℕ, ◌+◌, ◌-◌, ◌*◌, ◌<◌, ◌≤◌, ◌==◌, nat_lt, Bool, true, false, ◌||◌, if◌then◌else◌, List, [], ◌∷◌, ◌++◌, length, drop, take, All, AllPairs, Option, Some, None, IfSome, Result, Ok, Err, refl, arith, position, bytes_eq, codes, length-append}
 use Rattle.std.specs.Option.{option_or}
 use Rattle.std.specs.Result.{IfOk}
 use Rattle.std.proofs.lemmas.Bool.Decides.{nat_tests}
@@ -7,12 +7,10 @@ use Rattle.std.proofs.lemmas.List.Elements.{All-nil, All-cons, All-push}
 use Rattle.std.proofs.lemmas.List.Quantifiers.{all_pairs_push}
 use Rattle.pipe_base.specs.declared.name.HostId.{HostId}
 use Rattle.pipe_base.specs.declared.message.Service.{Service}
-use Rattle.pipe_base.specs.declared.message.Service.TheVariants.{BestEffort}
 use Rattle.pipe_base.specs.Graph.{Graph, IsGraph}
 use Rattle.pipe_base.specs.Limits.{last_stamp, most_receivers}
 use Rattle.pipe_model.specs.declared.event.Event.{Event}
-use Rattle.pipe_model.specs.declared.event.Event.TheVariants.{Send}
-use Rattle.pipe_model.specs.Event.{AreReceivers, IsBuilt}
+use Rattle.pipe_model.specs.Event.{AreReceivers}
 use Rattle.pipe_text.specs.declared.kind.LineKind.{LineKind}
 use Rattle.pipe_text.specs.declared.kind.LineKind.TheVariants as kind
 use Rattle.pipe_text.specs.declared.kind.LineKind.TheVariants.{Twice}
@@ -24,7 +22,7 @@ use Rattle.pipe_text_schedule.specs.Line.{CanHappen, line_event}
 use Rattle.pipe_text_schedule.specs.Named.{below, name_in, host_in, half_of, half_at, half_split, half_in, node_in, link_in}
 use Rattle.pipe_text_schedule.specs.Receivers.{is_named, receiver_from, receiver_split, receiver_in, if_read, receivers_in}
 use Rattle.pipe_text_schedule.specs.Schedule.{event_onto, schedule_of}
-use Rattle.pipe_text_schedule.specs.Send.{service_of, send_from, if_few, best_line, send_line}
+use Rattle.pipe_text_schedule.specs.Send.{service_of, send_from, if_few, send_line}
 use Rattle.pipe_text_schedule.specs.Take.{place_of, keep_of, take_from, take_line, lose_from, lose_line}
 use Rattle.pipe_text_schedule.specs.Tick.{reading_of, tick_from, tick_line}
 
@@ -159,25 +157,17 @@ receivers_right graph names count more before (word ∷ words) sum are =
 
 -- sends
 
-service_best : (word : List ℕ) → IfSome (service_of word) (λ service. service ≡ BestEffort)
-service_best word = pick (bytes_eq word (codes "best"))
-  where
-    pick : (t : Bool) → IfSome (if t then Some BestEffort else None) (λ service. service ≡ BestEffort)
-    pick true = refl
-    pick false = tt
-
 send_happens : (graph : Graph) (count : ℕ) (host : Option ℕ) (service : Option Service) (now : Option ℕ) (dests : Result (List (HostId × List ℕ)) LineKind)
-    → 0 < count → count ≤ most_receivers → IfSome host (λ h. h < graph.hosts) → IfSome service (λ service. service ≡ BestEffort)
-    → IfSome now (λ n. n ≤ last_stamp) → IfOk dests (AreHosts graph count) → IfOk (send_from host service now dests) (CanHappen graph)
-send_happens graph count None service now dests some few known best reading are = tt
-send_happens graph count (Some host) None now dests some few known best reading are = tt
-send_happens graph count (Some host) (Some service) None dests some few known best reading are = tt
-send_happens graph count (Some host) (Some service) (Some now) (Err fault) some few known best reading are = tt
-send_happens graph count (Some host) (Some service) (Some now) (Ok dests) some few known best reading are =
+    → 0 < count → count ≤ most_receivers → IfSome host (λ h. h < graph.hosts) → IfSome now (λ n. n ≤ last_stamp) → IfOk dests (AreHosts graph count) → IfOk (send_from host service now dests) (CanHappen graph)
+send_happens graph count None service now dests some few known reading are = tt
+send_happens graph count (Some host) None now dests some few known reading are = tt
+send_happens graph count (Some host) (Some service) None dests some few known reading are = tt
+send_happens graph count (Some host) (Some service) (Some now) (Err fault) some few known reading are = tt
+send_happens graph count (Some host) (Some service) (Some now) (Ok dests) some few known reading are =
     let receivers : AreReceivers graph dests = record { some = omega (arith, some, are.0); few = omega (arith, few, are.0); known = are.1; different = are.2 } in
     record {
       known = record { host_in = known; reading = reading; receivers = receivers };
-      built = subst (λ (s : Service). IsBuilt (Send (record { 0 = host }) s (record { 0 = now }) dests)) (sym best) tt;
+      built = tt;
     }
 
 few_happen : (graph : Graph) (count : ℕ) (read : Result Event LineKind) → (0 < count → count ≤ most_receivers → IfOk read (CanHappen graph))
@@ -190,23 +180,16 @@ few_happen graph count read right = pick (count == 0) (nat_lt most_receivers cou
     pick false true counted most = tt
     pick false false counted most = right (grind (arith, nat_tests)) (grind (arith, nat_tests))
 
-best_happens : (graph : Graph) (names : List (List ℕ)) (host service : List ℕ) (words : List (List ℕ)) → IfOk (best_line graph names host service words) (CanHappen graph)
-best_happens graph names host service [] = tt
-best_happens graph names host service (now ∷ receivers) =
-    few_happen graph (length receivers) (send_from (host_in graph names host) (service_of service) (reading_of now) (receivers_in graph names [] receivers))
-    (λ some few.
-    send_happens graph (length receivers) (host_in graph names host) (service_of service) (reading_of now) (receivers_in graph names [] receivers) some few
-    (below_bound graph.hosts (name_in names host)) (service_best service) (number_within last_stamp now)
-    (receivers_right graph names 0 (length receivers) [] receivers (omega arith) (refl, All-nil (λ (d : HostId × List ℕ). d.0.0 < graph.hosts), λ i j d _ below. absurd (omega (arith, below)))))
-
 send_line_happens : (graph : Graph) (names words : List (List ℕ)) → IfOk (send_line graph names words) (CanHappen graph)
 send_line_happens graph names [] = tt
 send_line_happens graph names (host ∷ []) = tt
-send_line_happens graph names (host ∷ service ∷ words) = pick (bytes_eq service (codes "reliable"))
-  where
-    pick : (t : Bool) → IfOk (if t then Err kind.Verb else best_line graph names host service words) (CanHappen graph)
-    pick true = tt
-    pick false = best_happens graph names host service words
+send_line_happens graph names (host ∷ service ∷ []) = tt
+send_line_happens graph names (host ∷ service ∷ now ∷ receivers) =
+    few_happen graph (length receivers) (send_from (host_in graph names host) (service_of service) (reading_of now) (receivers_in graph names [] receivers))
+    (λ some few.
+    send_happens graph (length receivers) (host_in graph names host) (service_of service) (reading_of now) (receivers_in graph names [] receivers) some few
+    (below_bound graph.hosts (name_in names host)) (number_within last_stamp now)
+    (receivers_right graph names 0 (length receivers) [] receivers (omega arith) (refl, All-nil (λ (d : HostId × List ℕ). d.0.0 < graph.hosts), λ i j d _ below. absurd (omega (arith, below)))))
 
 -- lines and schedules
 

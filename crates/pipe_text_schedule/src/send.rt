@@ -4,7 +4,7 @@ ghost use Rattle.pipe_base.specs.Limits.{most_receivers};
 ghost use Rattle.pipe_text_schedule.specs.Line.{CanHappen};
 ghost use Rattle.pipe_text_schedule.specs.Named.{host_in};
 ghost use Rattle.pipe_text_schedule.specs.Receivers.{receivers_in};
-ghost use Rattle.pipe_text_schedule.specs.Send.{best_line, send_from, send_line, service_of};
+ghost use Rattle.pipe_text_schedule.specs.Send.{send_from, send_line, service_of};
 ghost use Rattle.pipe_text_schedule.specs.Tick.{reading_of};
 
 use crate::name::host_named;
@@ -15,7 +15,7 @@ use pipe_text::{LineKind, read_number};
 use pipe_topo::{Names, Topology};
 use std::alloc::Global;
 
-/// `send HOST best READING HOST=BODY ..`, by the words after the verb.
+/// `send HOST SERVICE READING HOST=BODY ..`, by the words after the verb.
 pub fn read_send(
     alloc: Global,
     names: &Names,
@@ -31,24 +31,6 @@ pub fn read_send(
     let Some((service, words)) = words.split_first() else {
         return Ok(Err(LineKind::Count));
     };
-    if *service == b"reliable".as_slice() {
-        return Ok(Err(LineKind::Verb));
-    }
-    read_best(alloc, names, topology, host, service, words)
-}
-
-// The words after the service.
-fn read_best(
-    alloc: Global,
-    names: &Names,
-    topology: &Topology,
-    host: &[u8],
-    service: &[u8],
-    words: &[&[u8]],
-) -> Result<Result<Event, LineKind>, NoMemory>
-    ensures event { IfOk result (λ read. read ≡ best_line topology.now names.now host.now service.now (map (λ word. word.now) words.now)) }
-    ensures known { IfOk result (λ read. IfOk read (CanHappen topology.now)) }
-{
     let Some((now, receivers)) = words.split_first() else {
         return Ok(Err(LineKind::Count));
     };
@@ -78,9 +60,9 @@ fn read_fields(
     let Some(host) = host_named(names, topology, host) else {
         return Ok(Err(LineKind::Node));
     };
-    if service != b"best".as_slice() {
+    let Some(service) = service_of(service) else {
         return Ok(Err(LineKind::Service));
-    }
+    };
     let Some(now) = read_number(now, LAST_STAMP) else {
         return Ok(Err(LineKind::Number));
     };
@@ -88,9 +70,21 @@ fn read_fields(
         Err(kind) => Ok(Err(kind)),
         Ok(dests) => Ok(Ok(Event::Send {
             host,
-            service: Service::BestEffort,
+            service,
             now: Ts(now),
             dests,
         })),
+    }
+}
+
+fn service_of(word: &[u8]) -> Option<Service>
+    ensures { result ≡ service_of word.now }
+{
+    if word == b"best".as_slice() {
+        Some(Service::BestEffort)
+    } else if word == b"reliable".as_slice() {
+        Some(Service::Reliable)
+    } else {
+        None
     }
 }

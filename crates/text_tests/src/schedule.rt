@@ -35,10 +35,14 @@ fn read(
 
 #[test]
 fn events(rt: HostRuntime) -> Result<(), Fail> {
-    let table: [(&[u8], &[u8]); 8] = [
+    let table: [(&[u8], &[u8]); 9] = [
         (
             b"send h0 best 10 h1=6869 h0=",
             b"Send { host: HostId(0), service: BestEffort, now: Ts(10), dests: List { items: [(HostId(1), Body { block: Some([104, 105]) }), (HostId(0), Body { block: None })] } }",
+        ),
+        (
+            b"send h1 reliable 0 h1=ff",
+            b"Send { host: HostId(1), service: Reliable, now: Ts(0), dests: List { items: [(HostId(1), Body { block: Some([255]) })] } }",
         ),
         (b"tick h1 0", b"Tick { node: NodeId(1), now: Ts(0) }"),
         (
@@ -75,7 +79,7 @@ fn events(rt: HostRuntime) -> Result<(), Fail> {
 
 #[test]
 fn faults(rt: HostRuntime) -> Result<(), Fail> {
-    let table: [(&[u8], u32, LineKind); 52] = [
+    let table: [(&[u8], u32, LineKind); 54] = [
         // the first bad line, counted over skipped ones
         (
             b"send h0 best 10 h1=\ntick h0 20\n# c\n\ntick h1 15\ntick h9 15",
@@ -91,11 +95,10 @@ fn faults(rt: HostRuntime) -> Result<(), Fail> {
         (b"decide", 2, LineKind::Verb),
         (b"crash h0", 2, LineKind::Verb),
         (b"cut 0", 2, LineKind::Verb),
-        (b"send h9 reliable", 2, LineKind::Verb),
-        (b"send h0 reliable 1 h0=", 2, LineKind::Verb),
         // the number of words, before any word
         (b"send", 2, LineKind::Count),
         (b"send h9", 2, LineKind::Count),
+        (b"send h9 reliable", 2, LineKind::Count),
         (b"send h9 worst x", 2, LineKind::Count),
         (b"tick h9", 2, LineKind::Count),
         (b"tick h9 1 1", 2, LineKind::Count),
@@ -108,10 +111,13 @@ fn faults(rt: HostRuntime) -> Result<(), Fail> {
         (b"send h9 worst x h9=x", 2, LineKind::Node),
         (b"send s0.up best 1 h0=", 2, LineKind::Node),
         (b"send h0 worst x h9=x", 2, LineKind::Service),
+        (b"send h0 Reliable x h9=x", 2, LineKind::Service),
         (b"send h0 best x h9=x", 2, LineKind::Number),
+        (b"send h0 reliable x h9=x", 2, LineKind::Number),
         (b"send h0 best 281474976710655 h0=", 2, LineKind::Number),
         (b"send h0 best 1 h9=x", 2, LineKind::Node),
         (b"send h0 best 1 h0", 2, LineKind::Node),
+        (b"send h0 reliable 1 h9=x", 2, LineKind::Node),
         (b"send h0 best 1 s0.up=", 2, LineKind::Node),
         (b"send h0 best 1 h0=abc h9=", 2, LineKind::Body),
         (b"send h0 best 1 h0=AB", 2, LineKind::Body),
