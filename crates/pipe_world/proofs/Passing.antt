@@ -1,5 +1,5 @@
 -- Events that change no node: nothing waits at their place, or nobody acts in them.
-use Rattle.std.proofs.Common.{◌≡◌, ℕ, ◌<◌, Bool, true, false, if◌then◌else◌, List, [], length, refl, sym, subst, ap, ◌∙◌}
+use Rattle.std.proofs.Common.{◌≡◌, ℕ, ◌<◌, Bool, true, false, if◌then◌else◌, List, [], length, refl, subst, ap, ◌∙◌}
 use Rattle.std.specs.Prelude.{nat_lt, slice_index_or}
 use Rattle.std.proofs.lemmas.Bool.{and_right, both_ways}
 use Rattle.pipe_base.specs.declared.packet.Packet.{Packet}

@@ -1,32 +1,44 @@
 -- What a node puts in a step: few items, on links of the graph.
-use Rattle.std.proofs.Common.{◌≡◌, ℕ, zero, suc, ◌+◌, ◌<◌, ◌≤◌, ◌==◌, ◌%◌, Bool, true, false, if◌then◌else◌, List, [], ◌∷◌, ◌++◌, length, map, filter, Option, None, Some, sym, subst, ap, arith, length-append}
+use Rattle.std.proofs.Common.{ℕ, zero, suc, ◌+◌, ◌*◌, ◌<◌, ◌≤◌, ◌==◌, ◌%◌, ◌&&◌, Bool, true, false, if◌then◌else◌, List, [], ◌∷◌, length, map, filter, Option, None, Some, sym, subst, ap, arith, length-append}
 use Rattle.std.specs.List.{All}
 use Rattle.std.specs.Prelude.{IfSome, slice_get}
 use Rattle.std.proofs.lemmas.List.{length-map}
 use Rattle.std.proofs.lemmas.List.Elements.{All-nil, All-cons, All-append, All-filter, All-head, All-map, All-tail}
 use Rattle.std.proofs.lemmas.List.FromFn.{length-map-range_with_len}
 use Rattle.std.proofs.lemmas.List.Sums.{count_by-le-length, length-filter}
+use Rattle.pipe_base.specs.declared.message.Service.{Service}
+use Rattle.pipe_base.specs.declared.message.Service.TheVariants.{Reliable}
 use Rattle.pipe_base.specs.declared.name.HostId.{HostId}
 use Rattle.pipe_base.specs.declared.name.LinkId.{LinkId}
 use Rattle.pipe_base.specs.declared.name.Ts.{Ts}
 use Rattle.pipe_base.specs.declared.packet.Packet.{Packet}
+use Rattle.pipe_base.specs.declared.step.Fate.{Fate}
+use Rattle.pipe_base.specs.Fate.{is_holding}
 use Rattle.pipe_base.specs.Graph.{Graph, all_links, is_host, link_id, outs_of, tail_of}
-use Rattle.pipe_base.specs.Limits.{most_receivers}
-use Rattle.pipe_base.specs.Packets.{Fields, beacon, forwarded, message_to}
+use Rattle.pipe_base.specs.Limits.{most_receivers, most_unsettled}
+use Rattle.pipe_base.specs.Packets.{Fields, ack_to, beacon, forwarded, sent_to}
+use Rattle.pipe_base.specs.Resends.{resends}
 use Rattle.pipe_base.specs.ShortestRoute.{begins_shortest, firsts_of, in_turn, not_dropped, route}
 use Rattle.pipe_base.specs.Ways.{on_way, routed}
 use Rattle.pipe_model.specs.declared.event.Event.{Event}
 use Rattle.pipe_model.specs.declared.event.Event.TheVariants.{Send, Tick, Take}
 use Rattle.pipe_model.specs.declared.record.Record.{Record}
-use Rattle.pipe_model.specs.Duties.{beacons, beacons_of, fields, owed, owed_by_send, owed_by_take, owed_of}
+use Rattle.pipe_model.specs.Duties.{beacons, beacons_of, fields, owed, owed_by_half, owed_by_host, owed_by_send, owed_of}
 use Rattle.pipe_model.specs.Event.{IsOfGraph}
+use Rattle.pipe_model.specs.Got.{carries, gets, is_beacon}
 use Rattle.pipe_model.specs.Items.{items_in}
 use Rattle.pipe_model.specs.Moments.{known_drops, received}
-use Rattle.pipe_model.specs.Run.{IsNodeStep}
+use Rattle.pipe_model.specs.NeverLate.{AreOfGraph}
+use Rattle.pipe_model.specs.Run.{IsNodeHistory, IsNodeStep}
+use Rattle.pipe_model.specs.Sender.{sender_calls}
+use Rattle.pipe_model.proofs.Window.{resends_few}
 use Rattle.pipe_paths.proofs.RouteLaws.{outs_all}
 use Rattle.pipe_world.specs.Queues.{AreKnown}
 
 -- ---- few items
+
+abbrev pub most_resent : ℕ
+most_resent = most_unsettled * most_receivers
 
 on_way_few : (way : Option LinkId) (p : Packet) (puts : List (LinkId × Packet)) → length (on_way way p puts) ≤ length puts + 1
 on_way_few None p puts = omega arith
@@ -36,24 +48,41 @@ routed_few : (way : ℕ → ℕ → Option LinkId) (ps : List Packet) → length
 routed_few way [] = omega arith
 routed_few way (p ∷ ps) = omega (arith, on_way_few (way p.src.0 p.dst.0) p (routed way ps), routed_few way ps)
 
-sent_few : (src : HostId) (f : Fields) (dests : List (HostId × List ℕ)) (stamp : Option Ts) → length dests ≤ most_receivers → length (owed_by_send src f dests stamp) ≤ most_receivers
-sent_few src f dests None few = omega arith
-sent_few src f dests (Some ts) few = omega (arith, length-map dests (message_to src ts f))
+sent_few : (service : Service) (src : HostId) (f : Fields) (dests : List (HostId × List ℕ)) (stamp : Option Ts) → length dests ≤ most_receivers
+    → length (owed_by_send service src f dests stamp) ≤ most_resent
+sent_few service src f dests None few = omega arith
+sent_few service src f dests (Some ts) few = omega (arith, length-map dests (sent_to service src ts f), few)
 
-one_few : (t : Bool) (p : Packet) → length (if t then p ∷ [] else []) ≤ most_receivers
+one_few : (t : Bool) (p : Packet) → length (if t then p ∷ [] else []) ≤ most_resent
 one_few true p = omega arith
 one_few false p = omega arith
 
-passed_few : (graph : Graph) (node : ℕ) (f : Fields) (received : Option (ℕ × Packet)) → length (owed_by_take graph node f received) ≤ most_receivers
-passed_few graph node f None = omega arith
-passed_few graph node f (Some q) = one_few _ (forwarded f q.1)
+none_or_one : (t : Bool) (p : Packet) → length (if t then [] else p ∷ []) ≤ most_resent
+none_or_one true p = omega arith
+none_or_one false p = omega arith
 
--- a node owes no more packets that are to find a way than a scattering has receivers
-owed_few : (graph : Graph) (node : ℕ) (f : Fields) (event : Event) (stamp : Option Ts) (received : Option (ℕ × Packet)) → IsOfGraph graph event
-    → length (owed_of graph node f event stamp received) ≤ most_receivers
-owed_few graph node f (Send host service now dests) stamp received names = sent_few host f dests stamp names.receivers.few
-owed_few graph node f (Take link place keep) stamp received names = passed_few graph node f received
-owed_few graph node f _ stamp received names = omega arith
+answered_few : (host : ℕ) (f : Fields) (fate : Option Fate) (got : Option Packet) → length (owed_by_host host f fate got) ≤ most_resent
+answered_few host f fate None = omega arith
+answered_few host f fate (Some p) = one_few (carries Reliable p.kind && is_holding fate) (ack_to (record { 0 = host }) f p)
+
+forwarded_few : (f : Fields) (received : Option (ℕ × Packet)) → length (owed_by_half f received) ≤ most_resent
+forwarded_few f None = omega arith
+forwarded_few f (Some q) = none_or_one (is_beacon q.1.kind) (forwarded f q.1)
+
+either_few : (t : Bool) (ps qs : List Packet) → length ps ≤ most_resent → length qs ≤ most_resent → length (if t then ps else qs) ≤ most_resent
+either_few true ps qs first second = first
+either_few false ps qs first second = second
+
+-- a node owes no more packets that are to find a way than a full window of scatterings has receivers
+owed_few : (graph : Graph) (node : ℕ) (f : Fields) (own : List Record) (r : Record) (event : Event) → IsOfGraph graph event
+    → (length (resends (sender_calls graph node (r ∷ own)) (record { 0 = node }) f) ≤ most_resent) → length (owed_of graph node f own r event) ≤ most_resent
+owed_few graph node f own r (Send host service now dests) names again = sent_few service host f dests r.step.stamped names.receivers.few
+owed_few graph node f own r (Tick n now) names again =
+    either_few (is_host graph node) (resends (sender_calls graph node (r ∷ own)) (record { 0 = node }) f) [] again (omega arith)
+owed_few graph node f own r (Take link place keep) names again =
+    either_few (is_host graph node) (owed_by_host node f r.step.fate (gets graph node own r)) (owed_by_half f (received own r))
+    (answered_few node f r.step.fate (gets graph node own r)) (forwarded_few f (received own r))
+owed_few graph node f own r _ names again = omega arith
 
 filter_few : (test : LinkId → Bool) (ls : List LinkId) → length (filter test ls) ≤ length ls
 filter_few test ls = omega (arith, length-filter test ls, count_by-le-length test ls)
@@ -74,18 +103,21 @@ beacons_few : (graph : Graph) (node : ℕ) (dropped : List LinkId) (f : Fields) 
 beacons_few graph node dropped f (Tick n now) = tick_few graph node dropped f
 beacons_few graph node dropped f _ = omega arith
 
-pub items_few : (graph : Graph) (node : ℕ) (own : List Record) (r : Record) → IsOfGraph graph r.event → IsNodeStep graph node own r
-    → items_in r ≤ most_receivers + length graph.links
-items_few graph node own r names step =
+-- after records that are owed, of events of the network, a step puts few items
+pub items_few : (graph : Graph) (node : ℕ) (own : List Record) (r : Record) → IsNodeHistory graph node own → AreOfGraph graph own → IsOfGraph graph r.event
+    → IsNodeStep graph node own r → items_in r ≤ most_resent + length graph.links
+items_few graph node own r past known names step =
     let way : ℕ → ℕ → Option LinkId = route graph (known_drops (r ∷ own)) node in
+    let f : Fields = fields graph node own r in
     omega (
       arith,
       ap length step.put_is,
       ap length step.control_is,
       length-append (routed way (owed graph node own r)) (beacons graph node own r),
       routed_few way (owed graph node own r),
-      owed_few graph node (fields graph node own r) r.event r.step.stamped (received own r) names,
-      beacons_few graph node (known_drops (r ∷ own)) (fields graph node own r) r.event,
+      owed_few graph node f own r r.event names
+          (resends_few graph node (r ∷ own) (record { 0 = node }) f (past, step) (All-cons (λ (x : Record). IsOfGraph graph x.event) r own names known)),
+      beacons_few graph node (known_drops (r ∷ own)) f r.event,
     )
 
 -- ---- on links of the graph

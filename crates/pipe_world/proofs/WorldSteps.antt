@@ -1,21 +1,19 @@
 -- One event of the world: its record is what the rules say, and what is kept follows it.
-use Rattle.std.proofs.Common.{◌≡◌, ◌≢◌, ℕ, ◌<◌, Bool, true, false, if◌then◌else◌, List, [], ◌∷◌, ◌++◌, length, set, refl, sym, subst, ap, ◌∙◌, arith, inl, inr, eq-eqb, ne_eqb}
+use Rattle.std.proofs.Common.{◌≡◌, ◌≢◌, ℕ, ◌<◌, Bool, true, false, if◌then◌else◌, List, [], ◌∷◌, ◌++◌, length, set, Option, Some, None, refl, sym, subst, ap, ◌∙◌, arith, inl, inr, eq-eqb, ne_eqb}
 use Rattle.std.specs.Prelude.{nat_le, nat_lt, not, reverse, slice_get, slice_index_or, Result, OnOk, OnErr}
 use Rattle.std.specs.Prelude.{Ok as ResultOk, Err as ResultErr}
 use Rattle.std.proofs.lemmas.Bool.{and_from, and_left, both_ways, cases_eq, lt-ltb}
 use Rattle.std.proofs.lemmas.List.Elements.{All-cons}
 use Rattle.std.proofs.lemmas.List.{reverse-append, get_or-set_same, get_or-set_other, length-set}
-use Rattle.pipe_base.specs.declared.message.Service.{Service}
-use Rattle.pipe_base.specs.declared.message.Service.TheVariants.{BestEffort, Reliable}
 use Rattle.pipe_base.specs.declared.name.HostId.{HostId}
 use Rattle.pipe_base.specs.declared.name.NodeId.{NodeId}
-use Rattle.pipe_base.specs.declared.name.Ts.{Ts}
 use Rattle.pipe_base.specs.declared.packet.Packet.{Packet}
 use Rattle.pipe_base.specs.declared.step.Outcome.{Outcome}
 use Rattle.pipe_base.specs.declared.step.Outcome.TheVariants.{Ok, ClockEnd, Crashed, Ignored}
 use Rattle.pipe_base.specs.Clock.{stamp_at}
 use Rattle.pipe_base.specs.Limits.{last_stamp}
 use Rattle.pipe_base.specs.Moment.{is_up}
+use Rattle.pipe_base.specs.Settled.{unsettled}
 use Rattle.pipe_base.specs.Graph.{Graph, head_of, is_half, is_host}
 use Rattle.pipe_model.specs.declared.event.Event.{Event}
 use Rattle.pipe_model.specs.declared.event.Event.TheVariants.{Send, Tick, Take, Crash}
@@ -26,10 +24,11 @@ use Rattle.pipe_model.specs.declared.record.Took.TheVariants.{Nothing}
 use Rattle.pipe_model.specs.Clock.{next}
 use Rattle.pipe_model.specs.Event.{IsOfGraph, IsBuilt}
 use Rattle.pipe_model.specs.Items.{IsOver, Overfills}
-use Rattle.pipe_model.specs.Moments.{moments_of}
+use Rattle.pipe_model.specs.Moments.{moments_of, noted_hosts}
 use Rattle.pipe_model.specs.Outcome.{has_crashed, is_crash_of, item_at, outcome_at, outcome_of, took_at}
-use Rattle.pipe_model.specs.OwnOutcome.{own_outcome}
+use Rattle.pipe_model.specs.OwnOutcome.{first_failed, is_window_full, own_outcome, send_outcome}
 use Rattle.pipe_model.specs.Run.{IsHistory, IsNodeStep, IsStep}
+use Rattle.pipe_model.specs.Sender.{sender_calls}
 use Rattle.pipe_model.proofs.Links.{comes_by}
 use Rattle.pipe_model.proofs.Own.{own_more, own_same}
 use Rattle.pipe_world.specs.declared.node.Node.{Node}
@@ -58,15 +57,16 @@ awake_if : (b : Bool) (o : Outcome) → is_idle o ≡ false → is_idle (if b th
 awake_if true o is = refl
 awake_if false o is = is
 
+awake_send : (failed : Option HostId) (full : Bool) (now next : ℕ) → is_idle (send_outcome failed full now next) ≡ false
+awake_send (Some host) full now next = refl
+awake_send None true now next = refl
+awake_send None false now next = awake_if (nat_le (stamp_at now next) last_stamp) (ClockEnd (record { 0 = next })) refl
+
 awake : (graph : Graph) (node : ℕ) (own : List Record) (event : Event) → is_idle (own_outcome graph node own event) ≡ false
-awake graph node own (Send host service now dests) = awake_if (nat_le (stamp_at now.0 (next own)) last_stamp) (ClockEnd (record { 0 = next own })) refl
+awake graph node own (Send host service now dests) =
+    awake_send (first_failed (noted_hosts own) dests) (is_window_full service (unsettled (sender_calls graph node own))) now.0 (next own)
 awake graph node own (Take link place keep) = awake_if (is_up (moments_of own) link.0) Ignored refl
 awake graph node own _ = refl
-
--- a send that is built is one of best effort
-pub best_of : (host : HostId) (service : Service) (now : Ts) (dests : List (HostId × List ℕ)) → IsBuilt (Send host service now dests) → service ≡ BestEffort
-best_of host BestEffort now dests built = refl
-best_of host Reliable now dests built = absurd built
 
 -- no event that is built is a crash
 not_crash : (node : ℕ) (event : Event) → IsBuilt event → is_crash_of node event ≡ false

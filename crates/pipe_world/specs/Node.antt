@@ -1,5 +1,5 @@
 -- What is kept for a node: a host or a half, and what it stands for.
-use Rattle.std.specs.Prelude.{◌≡◌, ℕ, List}
+use Rattle.std.specs.Prelude.{ℕ, List}
 use Rattle.pipe_base.specs.Graph.{Graph}
 use Rattle.pipe_host.specs.Host as host
 use Rattle.pipe_model.specs.declared.event.Event.{Event}
@@ -15,7 +15,7 @@ abbrev pub Stands : Graph → ℕ → List Record → Node → Type 0
 Stands graph node own (Host h) = host.Stands graph node own h
 Stands graph node own (Half h) = half.Stands graph node own h
 
--- the same while a record is worked out: a host holds the message that it brought already
+-- the same while a record is worked out: a host holds the message that it brought already, or has begun what it sends
 abbrev pub StandsWith : Graph → ℕ → List Record → Record → Node → Type 0
 StandsWith graph node own r (Host h) = host.StandsWith graph node own r h
 StandsWith graph node own r (Half h) = half.Stands graph node own h

@@ -16,7 +16,7 @@ use Rattle.pipe_model.specs.Event.{IsOfGraph}
 use Rattle.pipe_model.specs.Items.{IsOver}
 use Rattle.pipe_model.specs.NeverLate.{AreOfGraph}
 use Rattle.pipe_model.specs.Outcome.{took_at}
-use Rattle.pipe_model.specs.Run.{IsHistory, IsStep}
+use Rattle.pipe_model.specs.Run.{IsHistory, IsNodeHistory, IsStep}
 use Rattle.pipe_world.specs.declared.node.Node.{Node}
 use Rattle.pipe_world.specs.Node as node
 use Rattle.pipe_world.specs.Queues as queues
@@ -77,6 +77,13 @@ pub record IsAt (graph : Graph) (id : NodeId) (event : Event) (k : Node) : Type 
   pub acts : ActsAt graph id event
   pub own : List Record
   pub stands : node.Stands graph id.0 own k
+
+-- what is kept stands for some own records of the node, each of which is what the node owed, in an event of the network
+pub record StandsForSome (graph : Graph) (id : ℕ) (k : Node) : Type 0 where
+  pub own : List Record
+  pub stands : node.Stands graph id own k
+  pub rules : IsNodeHistory graph id own
+  pub names : AreOfGraph graph own
 
 -- no node acts in the event
 abbrev pub IsOfNobody : Event → Type 0

@@ -8,7 +8,7 @@ ghost use Rattle.pipe_world.specs.History.{FullBy};
 ghost use Rattle.pipe_world.specs.Queues.{IsInPlace};
 ghost use Rattle.pipe_world.specs.Node as kept;
 ghost use Rattle.pipe_world.specs.Node.{Works, record_of};
-ghost use Rattle.pipe_world.specs.World.{ActsAt, Adds, AddsEvent, IsAsBefore, IsAt, IsOfNobody, PassesBy, Restores, Stands, WouldOverfill, is_there, quiet_record, taken_of};
+ghost use Rattle.pipe_world.specs.World.{ActsAt, Adds, AddsEvent, IsAsBefore, IsAt, IsOfNobody, PassesBy, Restores, Stands, StandsForSome, WouldOverfill, is_there, quiet_record, taken_of};
 
 use crate::enter::enter;
 use crate::fault::StepFault;
@@ -116,7 +116,7 @@ fn act(
     requires event { IsOfGraph topology.now event }
     requires built { IsBuilt event }
     requires acts { ActsAt topology.now id event }
-    requires stands { (own : List Record) × kept.Stands topology.now id.0 own node.old }
+    requires stands { StandsForSome topology.now id.0 node.old }
     requires links { length queues.old ≡ length topology.now.links }
     requires few { length topology.now.links ≤ 1088 }
     requires there { is_there queues.old event ≡ true }
@@ -152,7 +152,8 @@ pub struct Work {
     step: KeptStep,
 }
 
-/// Works out the step of the node that acts. Of the node only the message that it holds is changed.
+/// Works out the step of the node that acts. Of the node only the message that it holds for the step, or the scattering that
+/// it begins, is changed.
 fn work_at(node: &mut Node, queues: &[Queue], event: &Event) -> Result<Work, NoMemory>
     requires acts { (graph : Graph) × (id : NodeId) × IsAt graph id event.now node.old }
     requires built { IsBuilt event.now }
@@ -164,7 +165,12 @@ fn work_at(node: &mut Node, queues: &[Queue], event: &Event) -> Result<Work, NoM
     ensures err { OnErr result (node.new ≡ node.old) }
 {
     match event {
-        Event::Send { now, dests, .. } => Ok(untaken(node.work_send(*now, dests)?)),
+        Event::Send {
+            service,
+            now,
+            dests,
+            ..
+        } => Ok(untaken(node.work_send(*service, *now, dests)?)),
         Event::Tick { now, .. } => Ok(untaken(node.work_tick(*now)?)),
         Event::Take { link, place, .. } => {
             let packet = queues[link.0 as usize].at(*place).try_clone()?;

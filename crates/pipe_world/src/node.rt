@@ -1,17 +1,16 @@
 // What is kept for a node: a host or a half.
-ghost use Rattle.std.specs.Prelude.{◌≡◌, ◌∷◌, ◌<◌, ◌^◌, ℕ, Bool, List, true, length, IfOk, OnErr};
-ghost use Rattle.pipe_base.specs.declared.message.Service.TheVariants.{BestEffort};
+ghost use Rattle.std.specs.Prelude.{◌≡◌, ◌∷◌, ◌<◌, ◌≤◌, ℕ, Bool, List, true, length, IfOk, OnErr};
 ghost use Rattle.pipe_base.specs.declared.name.HostId.{HostId};
 ghost use Rattle.pipe_base.specs.Graph.{Graph, ins_of, is_host};
+ghost use Rattle.pipe_base.specs.Limits.{most_receivers};
 ghost use Rattle.pipe_base.specs.Moment.{has_link};
-ghost use Rattle.pipe_host.specs.Host.{taken, ticked};
-ghost use Rattle.pipe_model.specs.declared.event.Event.TheVariants.{Send};
+ghost use Rattle.pipe_host.specs.Steps.{sent, taken, ticked};
 ghost use Rattle.pipe_model.specs.declared.record.Record.{Record as ARecord};
 ghost use Rattle.pipe_model.specs.Acting.{ComesIn};
 ghost use Rattle.pipe_model.specs.Run.{IsNodeStep};
 ghost use Rattle.pipe_world.specs.Node.{Stands, StandsWith, Works};
 
-use pipe_base::{DestList, KeptStep, LinkId, NoMemory, NodeId, Packet, Ts};
+use pipe_base::{DestList, KeptStep, LinkId, NoMemory, NodeId, Packet, Service, Ts};
 use pipe_host::Host;
 use pipe_model::{Record, Took};
 use pipe_switch::Half;
@@ -24,15 +23,22 @@ pub enum Node {
 }
 
 impl Node {
-    /// Works out a best-effort send of a host.
-    pub fn work_send(&self, now: Ts, dests: &DestList) -> Result<KeptStep, NoMemory>
-        requires host { (graph : Graph) × (node : ℕ) × (own : List ARecord) × (is_host graph node ≡ true) × Stands graph node own self.now }
-        requires few { length dests.now < 2 ^ 32 }
-        ensures { IfOk result (λ step. (graph : Graph) (host : HostId) (own : List ARecord) → Stands graph host.0 own self.now
-            → Works graph host.0 own (record { event = Send host BestEffort now dests.now; took = Took.Nothing; step = step }) self.now) }
+    /// Works out a send of a host. Of the node only the scattering that it begins is changed.
+    pub fn work_send(
+        &mut self,
+        service: Service,
+        now: Ts,
+        dests: &DestList,
+    ) -> Result<KeptStep, NoMemory>
+        requires host { (graph : Graph) × (node : ℕ) × (own : List ARecord) × (is_host graph node ≡ true) × Stands graph node own self.old }
+        requires some { 0 < length dests.now }
+        requires few { length dests.now ≤ most_receivers }
+        ensures ok { IfOk result (λ step. (graph : Graph) (host : HostId) (own : List ARecord) → Stands graph host.0 own self.old
+            → Works graph host.0 own (sent host service now dests.now step) self.new) }
+        ensures err { OnErr result (self.new ≡ self.old) }
     {
         match self {
-            Node::Host(host) => host.work_send(now, dests),
+            Node::Host(host) => host.work_send(service, now, dests),
             Node::Half(_) => unreachable!(),
         }
     }
@@ -72,7 +78,7 @@ impl Node {
         }
     }
 
-    /// Gives back what was held for a step that was worked out and is refused. Takes no memory.
+    /// Gives back what was held or begun for a step that was worked out and is refused. Takes no memory.
     pub fn undo(&mut self, record: &Record)
         ensures { (graph : Graph) (node : ℕ) (own : List ARecord) → StandsWith graph node own «record».now self.old
             → IsNodeStep graph node own «record».now → Stands graph node own self.new }

@@ -62,7 +62,7 @@ fn run_on(
     })
 }
 
-static LOGS: [(&str, &str, usize); 9] = [
+static LOGS: [(&str, &str, usize); 10] = [
     ("star 2", NO_LOGS, 0),
     (TWO_HOSTS, TWO_LOGS, 12),
     // The minimum is over all in-links, also one that sent nothing.
@@ -116,6 +116,15 @@ static LOGS: [(&str, &str, usize); 9] = [
         "log h0 best 1\n1 h0 -\nlog h0 reliable 0\n",
         12,
     ),
+    // An acknowledgement is lost: the message is put again at the next tick, and then both receivers have acknowledged it.
+    (
+        "star 2\nsend h0 reliable 10 h0=a0 h1=a1\ntake 0 0\ntake 0 0\ntake 4 0\ntake 4 0\ntake 1 0\ntake 3 0\nlose 2 0\n\
+         take 0 0\ntake 4 0\ntake 1 0\ntick h0 20\ntick h1 20\ntake 0 0\ntake 0 0\ntake 2 0\ntick s0.up 0\n\
+         take 4 0\ntake 4 0\ntick s0.down 0\ntake 3 0\ntake 3 0\ntake 1 0\ntake 2 0\ntake 4 0\ntake 1 0\n\
+         tick h0 30\ntick h1 30\ntake 0 0\ntake 2 0\ntick s0.up 0\ntake 4 0\ntick s0.down 0\ntake 1 0\ntake 3 0\n",
+        "log h0 best 0\nlog h0 reliable 1\n10 h0 a0\nlog h1 best 0\nlog h1 reliable 1\n10 h0 a1\n",
+        35,
+    ),
 ];
 
 #[test]
@@ -144,8 +153,15 @@ const TWO_BEGUN: &str =
 
 const NO_LOG: &str = "log h0 best 0\nlog h0 reliable 0\n";
 
+const SEVENTEEN: &str =
+    "send h0 reliable 1 h0=\nsend h0 reliable 1 h0=\nsend h0 reliable 1 h0=\nsend h0 reliable 1 h0=\n\
+     send h0 reliable 1 h0=\nsend h0 reliable 1 h0=\nsend h0 reliable 1 h0=\nsend h0 reliable 1 h0=\n\
+     send h0 reliable 1 h0=\nsend h0 reliable 1 h0=\nsend h0 reliable 1 h0=\nsend h0 reliable 1 h0=\n\
+     send h0 reliable 1 h0=\nsend h0 reliable 1 h0=\nsend h0 reliable 1 h0=\nsend h0 reliable 1 h0=\n\
+     send h0 reliable 1 h0=\n";
+
 // An input and the text of its run, each in parts, and the records of the trace.
-static TRACES: [([&str; 2], [&str; 4], usize); 5] = [
+static TRACES: [([&str; 2], [&str; 4], usize); 6] = [
     // A beacon at place 1 overtakes the message, which is late.
     (
         [TWO_BEGIN, "take 3 1\ntake 3 0\n"],
@@ -184,6 +200,31 @@ static TRACES: [([&str; 2], [&str; 4], usize); 5] = [
             NO_LOG,
         ],
         2,
+    ),
+    // The window of unsettled scatterings is full; the first of them holds the promise.
+    (
+        ["star 1\n", SEVENTEEN],
+        [
+            "trace 17\n",
+            "event 0 send h0 reliable 1 h0=\noutcome ok\nstamp 1\nput 0 prepare h0 h0 1 1 1 -\n\
+             event 1 send h0 reliable 1 h0=\noutcome ok\nstamp 2\nput 0 prepare h0 h0 2 2 1 -\n\
+             event 2 send h0 reliable 1 h0=\noutcome ok\nstamp 3\nput 0 prepare h0 h0 3 3 1 -\n\
+             event 3 send h0 reliable 1 h0=\noutcome ok\nstamp 4\nput 0 prepare h0 h0 4 4 1 -\n\
+             event 4 send h0 reliable 1 h0=\noutcome ok\nstamp 5\nput 0 prepare h0 h0 5 5 1 -\n\
+             event 5 send h0 reliable 1 h0=\noutcome ok\nstamp 6\nput 0 prepare h0 h0 6 6 1 -\n\
+             event 6 send h0 reliable 1 h0=\noutcome ok\nstamp 7\nput 0 prepare h0 h0 7 7 1 -\n\
+             event 7 send h0 reliable 1 h0=\noutcome ok\nstamp 8\nput 0 prepare h0 h0 8 8 1 -\n",
+            "event 8 send h0 reliable 1 h0=\noutcome ok\nstamp 9\nput 0 prepare h0 h0 9 9 1 -\n\
+             event 9 send h0 reliable 1 h0=\noutcome ok\nstamp 10\nput 0 prepare h0 h0 10 10 1 -\n\
+             event 10 send h0 reliable 1 h0=\noutcome ok\nstamp 11\nput 0 prepare h0 h0 11 11 1 -\n\
+             event 11 send h0 reliable 1 h0=\noutcome ok\nstamp 12\nput 0 prepare h0 h0 12 12 1 -\n\
+             event 12 send h0 reliable 1 h0=\noutcome ok\nstamp 13\nput 0 prepare h0 h0 13 13 1 -\n\
+             event 13 send h0 reliable 1 h0=\noutcome ok\nstamp 14\nput 0 prepare h0 h0 14 14 1 -\n\
+             event 14 send h0 reliable 1 h0=\noutcome ok\nstamp 15\nput 0 prepare h0 h0 15 15 1 -\n\
+             event 15 send h0 reliable 1 h0=\noutcome ok\nstamp 16\nput 0 prepare h0 h0 16 16 1 -\n",
+            "event 16 send h0 reliable 1 h0=\noutcome window 16\nend\nlog h0 best 0\nlog h0 reliable 0\n",
+        ],
+        17,
     ),
     (
         ["star 1\n", "send h0 best 10 h0=6869\ntake 0 0\n"],
@@ -332,10 +373,10 @@ static FAULTS: [(&str, Status); 16] = [
         },
     ),
     (
-        "star 2\nsend h0 reliable 1 h1=00\n",
+        "star 2\nsend h0 slow 1 h1=00\n",
         Status::BadSchedule {
             line: 2,
-            kind: LineKind::Verb,
+            kind: LineKind::Service,
         },
     ),
     (

@@ -12,7 +12,7 @@ use Rattle.pipe_world.proofs.happen.act.Goals as goal
 
 pub work_at-requires : goal.work_at-requires
 work_at-requires c = record {
-  acts = (c.args.topology.now, c.args.id, record { names = c.requires.event; acts = c.requires.acts; own = c.requires.stands.0; stands = c.requires.stands.1 });
+  acts = (c.args.topology.now, c.args.id, record { names = c.requires.event; acts = c.requires.acts; own = c.requires.stands.own; stands = c.requires.stands.stands });
   built = c.requires.built;
   links = (c.args.topology.now, c.requires.links, c.requires.event);
   there = c.requires.there;
@@ -21,14 +21,15 @@ work_at-requires c = record {
 pub enter-requires-clause-known : goal.enter-requires-clause-known
 enter-requires-clause-known c =
     let graph = c.args.topology.now in
-    let works = c.in-Ok.ensures.work graph c.args.id c.requires.stands.0 c.requires.event c.requires.acts c.requires.stands.1 in
-    subst (λ (n : ℕ). AreKnown n c.in-Ok.work.step.put) (sym c.requires.links) (puts_known graph c.args.id.0 c.requires.stands.0 (record_of c.args.event c.in-Ok.work) works.rules)
+    let works = c.in-Ok.ensures.work graph c.args.id c.requires.stands.own c.requires.event c.requires.acts c.requires.stands.stands in
+    subst (λ (n : ℕ). AreKnown n c.in-Ok.work.step.put) (sym c.requires.links) (puts_known graph c.args.id.0 c.requires.stands.own (record_of c.args.event c.in-Ok.work) works.rules)
 
 pub enter-requires-clause-few : goal.enter-requires-clause-few
 enter-requires-clause-few c =
     let graph = c.args.topology.now in
-    let works = c.in-Ok.ensures.work graph c.args.id c.requires.stands.0 c.requires.event c.requires.acts c.requires.stands.1 in
-    omega (arith, items_few graph c.args.id.0 c.requires.stands.0 (record_of c.args.event c.in-Ok.work) c.requires.event works.rules, c.requires.few)
+    let works = c.in-Ok.ensures.work graph c.args.id c.requires.stands.own c.requires.event c.requires.acts c.requires.stands.stands in
+    let past = c.requires.stands in
+    omega (arith, items_few graph c.args.id.0 past.own (record_of c.args.event c.in-Ok.work) past.rules past.names c.requires.event works.rules, c.requires.few)
 
 pub returns-in-Ok-enter-clause-ok : goal.returns-in-Ok-enter-clause-ok
 returns-in-Ok-enter-clause-ok c =

@@ -1,12 +1,14 @@
 use Rattle.std.proofs.Common.{◌≡◌, ℕ, ◌<◌, List, ◌∷◌, [], ◌++◌, set, reverse, refl, subst, sym, ◌∙◌, arith}
 use Rattle.std.specs.Prelude.{slice_index_or}
 use Rattle.std.proofs.lemmas.List.{get_or_default}
+use Rattle.std.proofs.lemmas.List.Elements.{All-filter}
 use Rattle.std.proofs.lemmas.Result.{IfErr-weaker}
 use Rattle.pipe_base.specs.declared.step.Outcome.TheVariants.{Ok, NoItem}
 use Rattle.pipe_model.specs.declared.record.Record.{Record}
-use Rattle.pipe_model.specs.Acting.{own}
+use Rattle.pipe_model.specs.Acting.{is_own, own}
 use Rattle.pipe_model.specs.Event.{IsOfGraph}
 use Rattle.pipe_model.specs.Items.{Overfills}
+use Rattle.pipe_model.proofs.Own.{node_history}
 use Rattle.pipe_world.specs.declared.fault.StepFault.{StepFault}
 use Rattle.pipe_world.specs.declared.fault.StepFault.TheVariants.{Full}
 use Rattle.pipe_world.specs.declared.node.Node.{Node}
@@ -116,5 +118,11 @@ returns-in-None-clause-full c =
 pub act-requires-clause-stands : goal.act-requires-clause-stands
 act-requires-clause-stands c =
     let graph = c.args.topology.now in
+    let past : List Record = reverse c.args.history.now in
     let id : ℕ = c.in-Some.id.0 in
-    (own graph id (reverse c.args.history.now), c.requires.stands.nodes_are id c.index-nodes-id.result c.in-Some.ensures.known)
+    record {
+      own = own graph id past;
+      stands = c.requires.stands.nodes_are id c.index-nodes-id.result c.in-Some.ensures.known;
+      rules = node_history graph id past c.requires.stands.rules;
+      names = All-filter (is_own graph id) (λ (r : Record). IsOfGraph graph r.event) past c.requires.stands.names;
+    }

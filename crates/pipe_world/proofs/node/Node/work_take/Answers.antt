@@ -4,7 +4,7 @@ use Rattle.pipe_base.specs.declared.step.Step.{Step}
 use Rattle.pipe_base.specs.Graph.{Graph, ins_of}
 use Rattle.pipe_base.specs.Moment.{has_link}
 use Rattle.pipe_host.specs.Host as host
-use Rattle.pipe_host.specs.Host.{taken}
+use Rattle.pipe_host.specs.Steps.{taken}
 use Rattle.pipe_model.specs.declared.record.Record.{Record}
 use Rattle.pipe_model.specs.Run.{IsNodeStep}
 use Rattle.pipe_switch.specs.Half as half
