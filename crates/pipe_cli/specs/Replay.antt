@@ -6,7 +6,9 @@ use Rattle.pipe_base.specs.Graph.{Graph}
 use Rattle.pipe_base.specs.Limits.{most_items}
 use Rattle.pipe_model.specs.declared.event.Event.{Event}
 use Rattle.pipe_model.specs.declared.record.Record.{Record}
+use Rattle.pipe_model.specs.AllOrNone.{IsAllOrNone}
 use Rattle.pipe_model.specs.Items.{items_of}
+use Rattle.pipe_model.specs.LateMessage.{IsNoneLateOfItself}
 use Rattle.pipe_model.specs.NeverLate.{IsNeverLate, IsOfOldest}
 use Rattle.pipe_model.specs.Order.{AreLogsOrdered, AreStampsCausal, IsGenuine}
 use Rattle.pipe_model.specs.Run.{IsRun}
@@ -23,7 +25,8 @@ use Rattle.pipe_cli.specs.Running.{IsStopped}
 
 -- The trace is the run of these events, it puts no more than it may, and the order of the channel holds of it: logs rise,
 -- stamps are above what was logged, what is logged was sent, and where each take names the oldest packet of its link no
--- best-effort message is late.
+-- best-effort message is late. What all correct receivers of a reliable scattering have passed is in all their logs or in none,
+-- and no reliable message is late of itself.
 pub record IsOrderedRun (graph : Graph) (events : List Event) (trace : List Record) : Type 0 where
   pub run : IsRun graph events trace
   pub within : items_of trace ≤ most_items
@@ -31,6 +34,8 @@ pub record IsOrderedRun (graph : Graph) (events : List Event) (trace : List Reco
   pub causal : AreStampsCausal graph (reverse trace)
   pub genuine : IsGenuine graph (reverse trace)
   pub never_late : All IsOfOldest events → IsNeverLate (reverse trace)
+  pub all_or_none : IsAllOrNone graph (reverse trace)
+  pub none_late : IsNoneLateOfItself graph (reverse trace)
 
 -- the text of a trace by the form: that of its logs, with `--trace` that of the trace before it
 abbrev pub replay_text : Form → List (List ℕ) → Graph → List Record → List ℕ

@@ -1,11 +1,15 @@
 pub mod Acknowledged
 pub mod Acting
+pub mod AllOrNone
 pub mod Clock
+pub mod Controller
+pub mod Correct
 pub mod Duties
 pub mod Event
 pub mod Fate
 pub mod Got
 pub mod Items
+pub mod LateMessage
 pub mod Logged
 pub mod Marks
 pub mod MessagesSent

@@ -77,7 +77,7 @@ one_message : (p : Packet) → carries Reliable p.kind ≡ true → message_of R
 one_message p is = rw is refl
 
 -- the fate of a record that brings a reliable message
-reliable_fate : (graph : Graph) (node : ℕ) (own : List Record) (r : Record) (p : Packet) → gets graph node own r ≡ Some p → carries Reliable p.kind ≡ true
+pub reliable_fate : (graph : Graph) (node : ℕ) (own : List Record) (r : Record) (p : Packet) → gets graph node own r ≡ Some p → carries Reliable p.kind ≡ true
     → fate graph node own r ≡ Some (fate_of (barrier_at (plane_of Reliable) graph node own) (held Reliable graph node own) (key_of p))
 reliable_fate graph node own r p gets_is is =
     let best : got BestEffort graph node own r ≡ None = ap (message_of BestEffort) gets_is ∙ no_message p (other_service p.kind is) in

@@ -56,7 +56,7 @@ brings service graph node q p is =
     brought_by (is_host graph node) (q.1.dst.0 == node) (not (is_beacon q.1.kind)) (carries service q.1.kind) service node q p refl refl refl is
 
 -- the message that a record brings was sent before
-got_sent : (service : Service) (graph : Graph) (past : List Record) (r : Record) (n : ℕ) (o : Option (ℕ × Packet)) (p : Packet) → IsHistory graph past
+pub got_sent : (service : Service) (graph : Graph) (past : List Record) (r : Record) (n : ℕ) (o : Option (ℕ × Packet)) (p : Packet) → IsHistory graph past
     → IsStep graph past r → received (own graph n past) r ≡ o → message_of service (gets_of graph n o) ≡ Some p → SentTo service n past (key_of p, p.body)
 got_sent service graph past r n None p run step is got = cc
 got_sent service graph past r n (Some q) p run step is got =

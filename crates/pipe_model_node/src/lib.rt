@@ -2,19 +2,26 @@
 //! bounds its barrier, and its promise never falls. In a run each node's own records are such records, so the laws hold of every run.
 #![tactic(auto)]
 
-ghost use Rattle.std.specs.Prelude.{◌≡◌, ◌<◌, ◌≤◌, ◌∷◌, ℕ, All, List, length, true};
+ghost use Rattle.std.specs.Prelude.{◌≡◌, ◌<◌, ◌≤◌, ◌∷◌, ℕ, All, List, false, length, true};
+ghost use Rattle.pipe_base.specs.declared.message.Key.{Key};
 ghost use Rattle.pipe_base.specs.declared.message.Service.{Service};
+ghost use Rattle.pipe_base.specs.declared.message.Service.TheVariants.{Reliable};
 ghost use Rattle.pipe_base.specs.declared.packet.Plane.{Plane};
+ghost use Rattle.pipe_base.specs.declared.packet.Plane.TheVariants.{Commit};
 ghost use Rattle.pipe_base.specs.Barrier.{register};
 ghost use Rattle.pipe_base.specs.Graph.{Graph, ins_of};
 ghost use Rattle.pipe_base.specs.Limits.{most_unsettled};
+ghost use Rattle.pipe_base.specs.Messages.{has_key};
 ghost use Rattle.pipe_base.specs.Moment.{has_link, is_used};
 ghost use Rattle.pipe_base.specs.Scattering.{AreRising, Scattering, begun};
 ghost use Rattle.pipe_base.specs.Settled.{is_settled, unsettled};
 ghost use Rattle.pipe_model.specs.declared.record.Record.{Record};
+ghost use Rattle.pipe_model.specs.AllOrNone.{has_logged};
 ghost use Rattle.pipe_model.specs.Clock.{next, promise};
+ghost use Rattle.pipe_model.specs.Fate.{held};
+ghost use Rattle.pipe_model.specs.LateMessage.{got_recall, is_void};
 ghost use Rattle.pipe_model.specs.Logged.{log};
-ghost use Rattle.pipe_model.specs.Moments.{barrier_at, moments_of};
+ghost use Rattle.pipe_model.specs.Moments.{barrier_at, moments_of, noted_hosts};
 ghost use Rattle.pipe_model.specs.Order.{IsRising, IsCausal, AreLogsOrdered, AreStampsCausal};
 ghost use Rattle.pipe_model.specs.Run.{IsHistory, IsNodeHistory};
 ghost use Rattle.pipe_model.specs.Sender.{sender_calls};
@@ -69,4 +76,11 @@ pub fn scatterings_rise()
 /// Whatever one node is handed, no more of its reliable scatterings are unsettled than the window has.
 pub fn windows_hold()
     ensures { (graph : Graph) (node : ℕ) (own : List Record) → IsNodeHistory graph node own → length (unsettled (sender_calls graph node own)) ≤ most_unsettled }
+{}
+
+/// Whatever one node is handed, a reliable message that it held, and that its commit barrier has passed, is in its log, unless
+/// the message was taken back or its sender is noted as failed by then.
+pub fn passed_messages_are_logged()
+    ensures { (graph : Graph) (node : ℕ) (own : List Record) (key : Key) → IsNodeHistory graph node own → has_key key (held Reliable graph node own) ≡ true
+        → got_recall graph node key own ≡ false → is_void key (noted_hosts own) ≡ false → key.ts.0 < barrier_at Commit graph node own → has_logged key own ≡ true }
 {}

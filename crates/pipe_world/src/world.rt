@@ -4,7 +4,9 @@ ghost use Rattle.pipe_model.specs.Event.{IsOfGraph, IsBuilt};
 ghost use Rattle.pipe_base.specs.Graph.{Graph, IsGraph, is_half};
 ghost use Rattle.pipe_base.specs.Limits.{most_items};
 ghost use Rattle.pipe_base.specs.Reach.{JoinsAllHosts};
+ghost use Rattle.pipe_model.specs.AllOrNone.{IsAllOrNone};
 ghost use Rattle.pipe_model.specs.Items.{Overfills, items_of};
+ghost use Rattle.pipe_model.specs.LateMessage.{IsNoneLateOfItself};
 ghost use Rattle.pipe_model.specs.NeverLate.{AreLinksOrdered, IsNeverLate};
 ghost use Rattle.pipe_model.specs.Order.{AreLogsOrdered, AreStampsCausal, IsGenuine};
 ghost use Rattle.pipe_model.specs.Run.{IsHistory};
@@ -82,8 +84,9 @@ impl World {
         )
     }
 
-    /// All that happened, the oldest record first. It is a history by the rules, and the order of the channel holds of it;
-    /// where each take took the oldest packet of its link, no best-effort message is late.
+    /// All that happened, the oldest record first. It is a history by the rules, and the order of the channel holds of it; what
+    /// all correct receivers have passed is in all their logs or in none; no reliable message is late of itself, and where each
+    /// take took the oldest packet of its link, no best-effort message is late.
     pub fn trace(&self) -> &Trace
         ensures trace { result.now ≡ self.now.trace }
         ensures within { items_of self.now.trace ≤ most_items }
@@ -93,6 +96,8 @@ impl World {
         ensures causal { AreStampsCausal self.now.graph (reverse self.now.trace) }
         ensures genuine { IsGenuine self.now.graph (reverse self.now.trace) }
         ensures never_late { AreLinksOrdered (reverse self.now.trace) → IsNeverLate (reverse self.now.trace) }
+        ensures all_or_none { IsAllOrNone self.now.graph (reverse self.now.trace) }
+        ensures none_late { IsNoneLateOfItself self.now.graph (reverse self.now.trace) }
     {
         self.history.trace()
     }
@@ -106,6 +111,8 @@ impl World {
         ensures causal { AreStampsCausal self.graph (reverse result) }
         ensures genuine { IsGenuine self.graph (reverse result) }
         ensures never_late { AreLinksOrdered (reverse result) → IsNeverLate (reverse result) }
+        ensures all_or_none { IsAllOrNone self.graph (reverse result) }
+        ensures none_late { IsNoneLateOfItself self.graph (reverse result) }
     {
         self.history.into_trace()
     }

@@ -28,6 +28,8 @@ returns-clause-ok c = λ bytes few read.
       causal = c.into_trace.ensures.causal;
       genuine = c.into_trace.ensures.genuine;
       never_late = λ ordered. c.into_trace.ensures.never_late (of_history IsOfOldest c.args.input.events c.into_trace.result events_are ordered);
+      all_or_none = c.into_trace.ensures.all_or_none;
+      none_late = c.into_trace.ensures.none_late;
     })
     (c.in-Ok-text_of.ensures ∙ ap (λ (g : Graph). replay_text c.args.form c.args.input.names g c.trace.result.now) c.topology.ensures
     ∙ ap (λ (t : List Record). replay_text c.args.form c.args.input.names c.run_events.new.world.graph t) trace_is)

@@ -1,7 +1,11 @@
 use Rattle.std.proofs.Common.{List, reverse, subst, sym}
 use Rattle.pipe_model.specs.declared.record.Record.{Record}
+use Rattle.pipe_model.specs.AllOrNone.{IsAllOrNone}
+use Rattle.pipe_model.specs.LateMessage.{IsNoneLateOfItself}
 use Rattle.pipe_model.specs.NeverLate.{AreLinksOrdered, IsNeverLate}
 use Rattle.pipe_model.specs.Order.{AreLogsOrdered, AreStampsCausal, IsGenuine}
+use Rattle.pipe_model_atomic.proofs.AllOrNone.{all_or_none}
+use Rattle.pipe_model_atomic.proofs.LateMessage.{none_late}
 use Rattle.pipe_model_net.proofs.Genuine.{run_genuine}
 use Rattle.pipe_model_net.proofs.NeverLate.{never_late}
 use Rattle.pipe_world.specs.World.{GraphAndTrace}
@@ -30,3 +34,15 @@ pub returns-clause-never_late : goal.returns-clause-never_late
 returns-clause-never_late c =
     subst (λ (t : List Record). AreLinksOrdered (reverse t) → IsNeverLate (reverse t)) (sym c.into_trace.ensures.trace)
     (never_late c.self.inside.topology (reverse c.self.inside.history) c.self.invariant.rules c.self.invariant.names)
+
+pub returns-clause-all_or_none : goal.returns-clause-all_or_none
+returns-clause-all_or_none c =
+    subst (λ (v : GraphAndTrace). IsAllOrNone v.graph (reverse c.into_trace.result)) c.self.view_is
+    (subst (λ (t : List Record). IsAllOrNone c.self.inside.topology (reverse t)) (sym c.into_trace.ensures.trace)
+    (all_or_none c.self.inside.topology (reverse c.self.inside.history) c.self.invariant.joined c.self.invariant.rules))
+
+pub returns-clause-none_late : goal.returns-clause-none_late
+returns-clause-none_late c =
+    subst (λ (v : GraphAndTrace). IsNoneLateOfItself v.graph (reverse c.into_trace.result)) c.self.view_is
+    (subst (λ (t : List Record). IsNoneLateOfItself c.self.inside.topology (reverse t)) (sym c.into_trace.ensures.trace)
+    (none_late c.self.inside.topology (reverse c.self.inside.history) c.self.invariant.joined c.self.invariant.rules c.self.invariant.names))

@@ -1,7 +1,11 @@
 use Rattle.std.proofs.Common.{reverse, subst}
 use Rattle.pipe_base.specs.Reach.{JoinsAllHosts}
+use Rattle.pipe_model.specs.AllOrNone.{IsAllOrNone}
+use Rattle.pipe_model.specs.LateMessage.{IsNoneLateOfItself}
 use Rattle.pipe_model.specs.NeverLate.{AreLinksOrdered, IsNeverLate}
 use Rattle.pipe_model.specs.Order.{AreLogsOrdered, AreStampsCausal, IsGenuine}
+use Rattle.pipe_model_atomic.proofs.AllOrNone.{all_or_none}
+use Rattle.pipe_model_atomic.proofs.LateMessage.{none_late}
 use Rattle.pipe_model_net.proofs.Genuine.{run_genuine}
 use Rattle.pipe_model_net.proofs.NeverLate.{never_late}
 use Rattle.pipe_world.specs.World.{GraphAndTrace}
@@ -30,3 +34,13 @@ returns-clause-never_late c =
 
 pub returns-clause-joined : goal.returns-clause-joined
 returns-clause-joined c = subst (λ (v : GraphAndTrace). JoinsAllHosts v.graph) c.self.view_is c.self.invariant.joined
+
+pub returns-clause-all_or_none : goal.returns-clause-all_or_none
+returns-clause-all_or_none c =
+    subst (λ (v : GraphAndTrace). IsAllOrNone v.graph (reverse v.trace)) c.self.view_is
+    (all_or_none c.self.inside.topology (reverse c.self.inside.history) c.self.invariant.joined c.self.invariant.rules)
+
+pub returns-clause-none_late : goal.returns-clause-none_late
+returns-clause-none_late c =
+    subst (λ (v : GraphAndTrace). IsNoneLateOfItself v.graph (reverse v.trace)) c.self.view_is
+    (none_late c.self.inside.topology (reverse c.self.inside.history) c.self.invariant.joined c.self.invariant.rules c.self.invariant.names)

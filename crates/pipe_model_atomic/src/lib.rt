@@ -1,0 +1,49 @@
+//! All or none, over every run: a reliable scattering that the commit barriers of all its correct receivers have passed is in
+//! all their logs or in none, and no reliable message is late of itself. It rests on a few sentences that hold at every moment.
+#![tactic(auto)]
+
+ghost use Rattle.std.specs.Prelude.{◌≡◌, ◌≤◌, ℕ, List};
+ghost use Rattle.pipe_base.specs.declared.packet.Plane.TheVariants.{Commit};
+ghost use Rattle.pipe_base.specs.Graph.{Graph};
+ghost use Rattle.pipe_base.specs.Path.{IsPath};
+ghost use Rattle.pipe_base.specs.Reach.{JoinsAllHosts};
+ghost use Rattle.pipe_model.specs.declared.record.Record.{Record};
+ghost use Rattle.pipe_model.specs.Acting.{own};
+ghost use Rattle.pipe_model.specs.AllOrNone.{IsAllOrNone};
+ghost use Rattle.pipe_model.specs.Controller.{is_live};
+ghost use Rattle.pipe_model.specs.LateMessage.{IsNoneLateOfItself};
+ghost use Rattle.pipe_model.specs.Moments.{barrier_at};
+ghost use Rattle.pipe_model.specs.NeverLate.{AreOfGraph};
+ghost use Rattle.pipe_model.specs.NodePromise.{node_promise};
+ghost use Rattle.pipe_model.specs.Run.{IsHistory};
+ghost use Rattle.pipe_model_atomic.specs.Sentences.{Sentences};
+ghost use Rattle.pipe_model_atomic.specs.UnsettledAbove.{AreUnsettledAbove};
+
+/// In every run of a network whose hosts are joined, the sentences hold at every moment.
+pub fn sentences_hold()
+    ensures { (graph : Graph) (past : List Record) → JoinsAllHosts graph → IsHistory graph past → Sentences graph past }
+{}
+
+/// Along a path of links that count, the commit barrier at the end is at most what the start promises.
+pub fn promises_bound_barriers()
+    ensures { (graph : Graph) (past : List Record) → Sentences graph past → (start end : ℕ) (path : List ℕ) → IsPath graph (is_live graph past) start end path
+        → barrier_at Commit graph end (own graph end past) ≤ node_promise Commit graph start (own graph start past) }
+{}
+
+/// While a scattering of a host that was not announced as failed is unsettled, no commit barrier of a host that takes part is
+/// above its timestamp.
+pub fn unsettled_scatterings_hold_back()
+    ensures { (graph : Graph) (past : List Record) → Sentences graph past → AreUnsettledAbove graph past }
+{}
+
+/// All or none: in every run of a network whose hosts are joined, a reliable scattering that the commit barriers of all its
+/// correct receivers have passed is in all their logs, or in none.
+pub fn every_run_is_all_or_none()
+    ensures { (graph : Graph) (past : List Record) → JoinsAllHosts graph → IsHistory graph past → IsAllOrNone graph past }
+{}
+
+/// In every run of events of such a network no reliable message is late of itself: one that comes late at a correct host was
+/// held there before.
+pub fn no_reliable_message_is_late_of_itself()
+    ensures { (graph : Graph) (past : List Record) → JoinsAllHosts graph → IsHistory graph past → AreOfGraph graph past → IsNoneLateOfItself graph past }
+{}
