@@ -1,7 +1,9 @@
-//! Tests of whole runs: of the world, and of `run` from the bytes read to the bytes written.
+//! Tests of whole runs: of the world, of `run` from the bytes read to the bytes written, and of what is printed of a run.
 #![tactic(auto)]
 
 #[cfg(test)]
 mod cli;
+#[cfg(test)]
+mod trace;
 #[cfg(test)]
 mod world;
