@@ -1,11 +1,91 @@
 // What no clause says: that the calls which take memory succeed with ample memory, and the values of the forms in memory.
 
 use pipe_base::*;
-use std::alloc::Global;
-use std::test::Fail;
+use std::alloc::{AllocError, Global};
+use std::process::Abort;
 
-fn sample_packet(alloc: Global) -> Packet {
-    Packet {
+// Lengths of bodies, and whether they are too long.
+static LENGTHS: [(usize, bool); 3] = [(0, false), (1024, false), (1025, true)];
+
+fn is_body(alloc: Global, len: usize, too_long: bool) -> Result<bool, AllocError> {
+    let bytes = vec![in alloc; 7u8; len]?;
+    match Body::new(alloc, &bytes) {
+        Ok(body) => Ok(!too_long && body.bytes() == bytes.as_slice()),
+        Err(fault) => Ok(too_long && fault == BodyFault::TooLong { len }),
+    }
+}
+
+#[test]
+fn bodies_have_at_most_1024_bytes(rt: HostRuntime) -> Result<(), AllocError> {
+    for (len, too_long) in &LENGTHS {
+        assert!(rt; is_body(rt.alloc(), *len, *too_long)?, "{len}");
+    }
+    Ok(())
+}
+
+// How many bytes each call gives, or that it fails, and what then stands in the two bytes of the buffer.
+static READS: [(Option<usize>, &[u8]); 4] = [
+    (Some(2), b"ab"),
+    (None, b"ab"),
+    (Some(1), b"cb"),
+    (Some(0), b"cb"),
+];
+
+fn read_all(rt: &impl Abort, source: &mut MemorySource) {
+    let mut buf = [0u8; 2];
+    for (count, given) in &READS {
+        assert!(rt; source.read(&mut buf).ok() == *count);
+        assert!(rt; buf.as_slice() == *given);
+    }
+}
+
+fn read_steadily(rt: &impl Abort, source: &mut SteadySource) {
+    let mut buf = [0u8; 2];
+    for count in [2usize, 1, 0] {
+        assert!(rt; source.read(&mut buf).ok() == Some(count));
+    }
+}
+
+#[test]
+fn sources_in_memory_give_their_bytes(rt: HostRuntime) -> Result<(), NoMemory> {
+    read_all(&rt, &mut MemorySource::new(rt.alloc(), b"abc", &[1])?);
+    read_steadily(&rt, &mut SteadySource::new(rt.alloc(), b"abc")?);
+    Ok(())
+}
+
+// Each piece, and how many bytes of it are taken, or that the call fails.
+static WRITES: [(&[u8], Option<usize>); 5] = [
+    (b"abcd", Some(3)),
+    (b"d", None),
+    (b"defg", Some(2)),
+    (b"", Some(0)),
+    (b"f", None),
+];
+
+fn write_all(rt: &impl Abort, sink: &mut MemorySink) {
+    for (piece, count) in &WRITES {
+        assert!(rt; sink.write(piece).ok() == *count);
+    }
+    assert!(rt; sink.bytes() == b"abcde".as_slice());
+}
+
+#[test]
+fn sinks_in_memory_take_what_fits(rt: HostRuntime) -> Result<(), NoMemory> {
+    write_all(&rt, &mut MemorySink::new(rt.alloc(), 5, 3, &[1])?);
+    assert!(rt; SteadySink::new().write(b"abc").ok() == Some(3));
+    Ok(())
+}
+
+fn dropping(alloc: Global) -> Result<Control, NoMemory> {
+    let mut links = List::new(alloc);
+    links.push(LinkId(7))?;
+    Ok(Control::DropLinks {
+        links: links.try_clone()?,
+    })
+}
+
+fn fill(alloc: Global, step: &mut Step) -> Result<(), NoMemory> {
+    let packet = Packet {
         kind: PacketKind::Plain,
         src: HostId(1),
         dst: HostId(2),
@@ -13,97 +93,34 @@ fn sample_packet(alloc: Global) -> Packet {
         be: Ts(11),
         commit: Ts(12),
         body: Body::empty(alloc),
-    }
-}
-
-#[test]
-fn bodies_have_at_most_1024_bytes(rt: HostRuntime) -> Result<(), Fail> {
-    let bytes = vec![in rt.alloc(); 7u8; 1025]?;
-    for (len, fault) in [
-        (0usize, None),
-        (1024, None),
-        (1025, Some(BodyFault::TooLong { len: 1025 })),
-    ] {
-        assert!(rt; len <= bytes.len());
-        match Body::new(rt.alloc(), &bytes[..len]) {
-            Ok(body) => {
-                assert_eq!(rt; fault, None);
-                assert_eq!(rt; body.bytes(), &bytes[..len]);
-                assert_eq!(rt; body.try_clone()?.bytes(), &bytes[..len]);
-            }
-            Err(found) => assert_eq!(rt; fault, Some(found)),
-        }
-    }
-    Ok(())
-}
-
-#[test]
-fn a_source_in_memory_gives_its_bytes_and_fails_where_it_is_told(
-    rt: HostRuntime,
-) -> Result<(), Fail> {
-    let mut source = MemorySource::new(rt.alloc(), b"abc", &[1])?;
-    let mut steady = SteadySource::new(rt.alloc(), b"abc")?;
-    let mut buf = [0u8; 2];
-    for (answer, given) in [
-        (Ok(2usize), b"ab"),
-        (Err(Failed), b"ab"),
-        (Ok(1), b"cb"),
-        (Ok(0), b"cb"),
-    ] {
-        assert_eq!(rt; source.read(&mut buf), answer);
-        assert_eq!(rt; &buf, given);
-    }
-    for count in [2usize, 1, 0] {
-        assert_eq!(rt; steady.read(&mut buf), Ok(count));
-    }
-    Ok(())
-}
-
-#[test]
-fn a_sink_in_memory_takes_what_fits_and_fails_where_it_is_told(
-    rt: HostRuntime,
-) -> Result<(), Fail> {
-    let mut sink = MemorySink::new(rt.alloc(), 5, 3, &[1])?;
-    for (piece, answer) in [
-        (b"abcd".as_slice(), Ok(3usize)),
-        (b"d".as_slice(), Err(Failed)),
-        (b"defg".as_slice(), Ok(2)),
-        (b"".as_slice(), Ok(0)),
-        (b"f".as_slice(), Err(Failed)),
-    ] {
-        assert_eq!(rt; sink.write(piece), answer);
-    }
-    assert_eq!(rt; sink.bytes(), b"abcde".as_slice());
-    assert_eq!(rt; SteadySink::new().write(b"abc"), Ok(3));
-    Ok(())
-}
-
-#[test]
-fn lists_and_what_holds_them_are_copied(rt: HostRuntime) -> Result<(), Fail> {
-    let alloc = rt.alloc();
-    let mut step = Step::new(alloc);
-    step.put.push((LinkId(3), sample_packet(alloc)))?;
+    };
+    step.put.push((LinkId(3), packet))?;
+    step.control.push(Addressed {
+        to: To::Controller,
+        control: dropping(alloc)?,
+    })?;
     step.noted.push(Announced {
         host: HostId(4),
         time: Ts(5),
     })?;
-    assert!(rt; step.dropped.push_or_return(LinkId(6)).is_ok());
-    let mut links = List::new(alloc);
-    links.push(LinkId(7))?;
-    let addressed = Addressed {
-        to: To::Controller,
-        control: Control::DropLinks {
-            links: links.try_clone()?,
-        },
-    };
-    step.control.push(addressed.try_clone()?)?;
-    let copy = step.try_clone()?;
-    assert_eq!(rt;
-        (copy.put.len(), copy.control.len(), copy.dropped.get(0)),
-        (1, 1, Some(&LinkId(6)))
-    );
-    assert_eq!(rt; copy.noted.as_slice(), step.noted.as_slice());
-    assert_eq!(rt; (links.get(0), links.get(1)), (Some(&LinkId(7)), None));
-    assert_eq!(rt; sample_packet(alloc).try_clone()?.ts, Ts(10));
+    match step.dropped.push_or_return(LinkId(6)) {
+        Ok(()) => Ok(()),
+        Err(_) => Err(NoMemory),
+    }
+}
+
+fn is_filled(step: &Step) -> bool {
+    step.put.len() == 1
+        && step.control.len() == 1
+        && step.noted.len() == 1
+        && matches!(step.dropped.get(0), Some(LinkId(6)))
+        && step.dropped.get(1).is_none()
+}
+
+#[test]
+fn steps_are_copied(rt: HostRuntime) -> Result<(), NoMemory> {
+    let mut step = Step::new(rt.alloc());
+    fill(rt.alloc(), &mut step)?;
+    assert!(rt; is_filled(&step.try_clone()?));
     Ok(())
 }

@@ -4,9 +4,9 @@
 ghost use Rattle.std.specs.Prelude.{◌≡◌};
 ghost use Rattle.pipe_codec.specs.Packet.{IsSendable};
 
-use pipe_base::{Body, BodyFault, HostId, Packet, PacketKind, Ts};
+use pipe_base::{Body, BodyFault, HostId, NoMemory, Packet, PacketKind, Ts};
 use pipe_codec::*;
-use std::test::Fail;
+use std::alloc::{AllocError, Global};
 
 /// A plain packet of host 0 to host 1 with timestamp and barrier 10, commit barrier 11 and the body `hi`.
 const PLAIN: [u8; 28] = [
@@ -41,6 +41,22 @@ const LAST: &[(usize, u8)] = &[
     (11, 255),
 ];
 
+static FAULTS: [Case; 13] = [
+    (&[], 26, None),
+    (&[(0, 9), (1, 6)], 25, Some(Bad::Short)),
+    (&[(0, 9), (1, 6)], 26, Some(Bad::Version)),
+    (&[(1, 6), (11, 1)], 26, Some(Bad::Kind)),
+    (&[(25, 1)], 26, Some(Bad::Field)),
+    (&[(3, 1)], 26, Some(Bad::Field)),
+    (&[(11, 1)], 26, Some(Bad::Field)),
+    (&[(1, 3), (25, 1)], 27, Some(Bad::Field)),
+    (&[(1, 2), (24, 4), (25, 1)], 27, Some(Bad::Field)),
+    (LAST, 26, Some(Bad::Field)),
+    (&[(1, 1), (25, 2)], 27, Some(Bad::Length)),
+    (&[], 27, Some(Bad::Length)),
+    (&[(1, 5), (3, 1), (11, 1)], 26, None),
+];
+
 fn edited(edits: &[(usize, u8)]) -> [u8; 28] {
     let mut bytes = [0u8; 28];
     bytes[0] = 1;
@@ -54,129 +70,151 @@ fn edited(edits: &[(usize, u8)]) -> [u8; 28] {
 
 #[test]
 fn the_first_fault_of_a_packet_is_told(rt: HostRuntime) {
-    let cases: [Case; 13] = [
-        (&[], 26, None),
-        (&[(0, 9), (1, 6)], 25, Some(Bad::Short)),
-        (&[(0, 9), (1, 6)], 26, Some(Bad::Version)),
-        (&[(1, 6), (11, 1)], 26, Some(Bad::Kind)),
-        (&[(25, 1)], 26, Some(Bad::Field)),
-        (&[(3, 1)], 26, Some(Bad::Field)),
-        (&[(11, 1)], 26, Some(Bad::Field)),
-        (&[(1, 3), (25, 1)], 27, Some(Bad::Field)),
-        (&[(1, 2), (24, 4), (25, 1)], 27, Some(Bad::Field)),
-        (LAST, 26, Some(Bad::Field)),
-        (&[(1, 1), (25, 2)], 27, Some(Bad::Length)),
-        (&[], 27, Some(Bad::Length)),
-        (&[(1, 5), (3, 1), (11, 1)], 26, None),
-    ];
-    for (edits, len, fault) in cases {
+    for (edits, len, fault) in &FAULTS {
         let bytes = edited(edits);
-        assert!(rt; len <= 28);
-        assert_eq!(rt; decode(&bytes[..len]).err(), fault, "{edits:?}");
+        assert!(rt; *len <= 28);
+        assert!(rt; decode(&bytes[..*len]).err() == *fault, "{edits:?}");
+    }
+}
+
+fn is_written(packet: &Packet) -> bool
+    requires { IsSendable packet.now }
+{
+    let mut wanted = [7u8; 30];
+    wanted[..28].copy_from_slice(&PLAIN);
+    let mut out = [7u8; 30];
+    packet.body.bytes().len() <= 4 && encode(packet, &mut out) == 28 && out == wanted
+}
+
+fn is_read(alloc: Global, packet: &Packet) -> Result<bool, NoMemory> {
+    let Ok(read) = decode(&PLAIN) else {
+        return Ok(false);
+    };
+    Ok(
+        read.kind == packet.kind
+            && read.src == packet.src
+            && read.dst == packet.dst
+            && read.ts == packet.ts
+            && read.be == packet.be
+            && read.commit == packet.commit
+            && own(alloc, &read)?.body.bytes() == packet.body.bytes(),
+    )
+}
+
+fn is_read_back(alloc: Global) -> Result<bool, NoMemory> {
+    match Body::new(alloc, b"hi") {
+        Ok(body) => {
+            let packet = plain(body);
+            Ok(is_written(&packet) && is_read(alloc, &packet)?)
+        }
+        Err(_) => Err(NoMemory),
+    }
+}
+
+// The longest body, and one that is longer.
+fn is_longest_read_back(alloc: Global) -> Result<bool, AllocError> {
+    let bytes = vec![in alloc; 7u8; 1025]?;
+    let mut out = [0u8; 1050];
+    match Body::new(alloc, &bytes[..1024]) {
+        Ok(body) => {
+            let packet = plain(body);
+            Ok(
+                packet.body.bytes().len() <= 1024
+                    && encode(&packet, &mut out) == 1050
+                    && has_body(&out, &bytes[..1024])
+                    && Body::new(alloc, &bytes).err() == Some(BodyFault::TooLong { len: 1025 }),
+            )
+        }
+        Err(_) => Ok(false),
+    }
+}
+
+fn has_body(bytes: &[u8], body: &[u8]) -> bool {
+    match decode(bytes) {
+        Ok(read) => read.body == body,
+        Err(_) => false,
     }
 }
 
 #[test]
-fn a_packet_is_written_and_read_back(rt: HostRuntime) -> Result<(), Fail> {
-    let packet = plain(Body::new(rt.alloc(), b"hi")?);
-    let mut out = [7u8; 30];
-    assert!(rt; packet.body.bytes().len() <= 4);
-    assert_eq!(rt; encode(&packet, &mut out), 28);
-    let mut wanted = [7u8; 30];
-    wanted[..28].copy_from_slice(&PLAIN);
-    assert_eq!(rt; out, wanted);
-    let read = decode(&PLAIN)?;
-    assert_eq!(rt;
-        (read.kind, read.src, read.dst),
-        (packet.kind, packet.src, packet.dst)
-    );
-    assert_eq!(rt;
-        (read.ts, read.be, read.commit),
-        (packet.ts, packet.be, packet.commit)
-    );
-    assert_eq!(rt; own(rt.alloc(), &read)?.body.bytes(), b"hi".as_slice());
-    Ok(())
-}
-
-#[test]
-fn the_longest_body_is_written_and_read_back(rt: HostRuntime) -> Result<(), Fail> {
-    let bytes = vec![in rt.alloc(); 7u8; 1025]?;
-    assert!(rt; bytes.len() == 1025);
-    let too_long = Body::new(rt.alloc(), &bytes).err();
-    assert_eq!(rt; too_long, Some(BodyFault::TooLong { len: 1025 }));
-    let packet = plain(Body::new(rt.alloc(), &bytes[..1024])?);
-    let mut out = [0u8; 1050];
-    assert!(rt; packet.body.bytes().len() <= 1024);
-    assert_eq!(rt; encode(&packet, &mut out), 1050);
-    assert_eq!(rt; decode(&out)?.body, &bytes[..1024]);
+fn packets_are_written_and_read_back(rt: HostRuntime) -> Result<(), NoMemory> {
+    assert!(rt; is_read_back(rt.alloc())?);
+    assert!(rt; is_longest_read_back(rt.alloc())?);
     Ok(())
 }
 
 // A control message as bytes, and its value as it is shown.
-type Shown = (&'static [u8], &'static str);
+static CONTROLS: [(&[u8], &str); 6] = [
+    (
+        &[1, 16, 255, 255, 0, 8, 0, 4, 0, 0, 0, 0, 0, 9],
+        "Addressed { to: Controller, control: Down { link: LinkId(4), value: Ts(9) } }",
+    ),
+    (
+        &[1, 17, 0, 5, 0, 2, 0, 4],
+        "Addressed { to: Node(NodeId(5)), control: Freeze { link: LinkId(4) } }",
+    ),
+    (
+        &[
+            1, 18, 0, 1, 0, 16, 0, 2, 1, 2, 3, 4, 5, 6, 0, 3, 0, 0, 0, 0, 0, 20,
+        ],
+        "Addressed { to: Node(NodeId(1)), control: Notice { list: List { items: [Announced { host: HostId(2), time: Ts(1108152157446) }, Announced { host: HostId(3), time: Ts(20) }] } } }",
+    ),
+    (
+        &[1, 19, 255, 255, 0, 4, 0, 1, 1, 2],
+        "Addressed { to: Controller, control: Done { host: HostId(1), count: 258 } }",
+    ),
+    (
+        &[1, 20, 0, 6, 0, 4, 0, 0, 1, 2],
+        "Addressed { to: Node(NodeId(6)), control: DropLinks { links: List { items: [LinkId(0), LinkId(258)] } } }",
+    ),
+    (
+        &[1, 21, 255, 255, 0, 4, 0, 6, 0, 2],
+        "Addressed { to: Controller, control: Gone { node: NodeId(6), count: 2 } }",
+    ),
+];
+
+fn is_control(alloc: Global, bytes: &[u8], shown: &str) -> Result<bool, AllocError> {
+    let Ok(message) = decode_control(alloc, bytes) else {
+        return Ok(false);
+    };
+    let mut out = [7u8; 24];
+    let len = control_len(&message);
+    let text = format!(in alloc; "{message:?}")?;
+    Ok(
+        text.as_str() == shown
+            && len <= 24
+            && encode_control(&message, &mut out) == len
+            && &out[..len] == bytes,
+    )
+}
 
 #[test]
-fn a_control_message_is_read_and_written_back(rt: HostRuntime) -> Result<(), Fail> {
-    let cases: [Shown; 6] = [
-        (
-            &[1, 16, 255, 255, 0, 8, 0, 4, 0, 0, 0, 0, 0, 9],
-            "to: Controller, control: Down { link: LinkId(4), value: Ts(9) }",
-        ),
-        (
-            &[1, 17, 0, 5, 0, 2, 0, 4],
-            "to: Node(NodeId(5)), control: Freeze { link: LinkId(4) }",
-        ),
-        (
-            &[
-                1, 18, 0, 1, 0, 16, 0, 2, 1, 2, 3, 4, 5, 6, 0, 3, 0, 0, 0, 0, 0, 20,
-            ],
-            "to: Node(NodeId(1)), control: Notice { list: List { items: [Announced { host: HostId(2), time: Ts(1108152157446) }, Announced { host: HostId(3), time: Ts(20) }] } }",
-        ),
-        (
-            &[1, 19, 255, 255, 0, 4, 0, 1, 1, 2],
-            "to: Controller, control: Done { host: HostId(1), count: 258 }",
-        ),
-        (
-            &[1, 20, 0, 6, 0, 4, 0, 0, 1, 2],
-            "to: Node(NodeId(6)), control: DropLinks { links: List { items: [LinkId(0), LinkId(258)] } }",
-        ),
-        (
-            &[1, 21, 255, 255, 0, 4, 0, 6, 0, 2],
-            "to: Controller, control: Gone { node: NodeId(6), count: 2 }",
-        ),
-    ];
-    for (bytes, shown) in cases {
-        let message = decode_control(rt.alloc(), bytes)?;
-        let text = format!(in rt.alloc(); "{message:?}")?;
-        let wanted = format!(in rt.alloc(); "Addressed {{ {shown} }}")?;
-        assert_eq!(rt; text.as_str(), wanted.as_str());
-        let mut out = [7u8; 24];
-        let len = control_len(&message);
-        assert!(rt; len <= 24);
-        assert_eq!(rt; encode_control(&message, &mut out), len);
-        assert_eq!(rt; &out[..len], bytes);
+fn control_messages_are_read_and_written_back(rt: HostRuntime) -> Result<(), AllocError> {
+    for (bytes, shown) in &CONTROLS {
+        assert!(rt; is_control(rt.alloc(), bytes, shown)?, "{shown}");
     }
     Ok(())
 }
 
+static CONTROL_FAULTS: [(&[u8], Bad); 12] = [
+    (&[9, 15, 0, 0, 0], Bad::Short),
+    (&[9, 15, 0, 0, 0, 0], Bad::Version),
+    (&[1, 15, 0, 0, 0, 0], Bad::Kind),
+    (&[1, 22, 0, 0, 0, 0], Bad::Kind),
+    (&[1, 16, 0, 0, 0, 7], Bad::Field),
+    (&[1, 18, 0, 0, 0, 0], Bad::Field),
+    (&[1, 18, 0, 0, 0, 12], Bad::Field),
+    (&[1, 18, 0, 0, 2, 8], Bad::Field),
+    (&[1, 20, 0, 0, 0, 3, 0, 0, 0], Bad::Field),
+    (&[1, 20, 0, 0, 8, 130], Bad::Field),
+    (&[1, 17, 0, 0, 0, 2, 0], Bad::Length),
+    (&[1, 19, 0, 0, 0, 4, 0, 0, 0, 0, 0], Bad::Length),
+];
+
 #[test]
 fn the_first_fault_of_a_control_message_is_told(rt: HostRuntime) {
-    let cases: [(&[u8], Bad); 12] = [
-        (&[9, 15, 0, 0, 0], Bad::Short),
-        (&[9, 15, 0, 0, 0, 0], Bad::Version),
-        (&[1, 15, 0, 0, 0, 0], Bad::Kind),
-        (&[1, 22, 0, 0, 0, 0], Bad::Kind),
-        (&[1, 16, 0, 0, 0, 7], Bad::Field),
-        (&[1, 18, 0, 0, 0, 0], Bad::Field),
-        (&[1, 18, 0, 0, 0, 12], Bad::Field),
-        (&[1, 18, 0, 0, 2, 8], Bad::Field),
-        (&[1, 20, 0, 0, 0, 3, 0, 0, 0], Bad::Field),
-        (&[1, 20, 0, 0, 8, 130], Bad::Field),
-        (&[1, 17, 0, 0, 0, 2, 0], Bad::Length),
-        (&[1, 19, 0, 0, 0, 4, 0, 0, 0, 0, 0], Bad::Length),
-    ];
-    for (bytes, bad) in cases {
+    for (bytes, bad) in &CONTROL_FAULTS {
         let fault = decode_control(rt.alloc(), bytes).err();
-        assert_eq!(rt; fault, Some(ControlFault::Bad(bad)), "{bytes:?}");
+        assert!(rt; fault == Some(ControlFault::Bad(*bad)), "{bytes:?}");
     }
 }

@@ -1,102 +1,66 @@
 // Who must go in three networks, by what was reported.
 ghost use Rattle.std.specs.Prelude.{◌≡◌, length, IfOk};
 
-use pipe_base::{HostId, LinkId, List, NoMemory, Ts};
+use crate::network::{Network, TWO_HOSTS, TWO_WAYS, build};
+use pipe_base::{HostId, LinkId, NoMemory, Ts};
 use pipe_failtime::{doomed, failure_time, is_cut, useless};
-use pipe_topo::{CableEnd, HostSet, LinkSet, Plan, Reports, TopoFault, Topology};
+use pipe_topo::{HostSet, LinkSet, Reports, TopoFault, Topology};
 use std::alloc::Global;
 use std::process::Abort;
 
-// A cable between two ends: a host by its number, a switch by a hundred more.
-type Ends = (u16, u16);
-
 // A network with the reports of some links; who is doomed, and cut off then; failure times of some hosts; useless links.
 struct Case {
-    hosts: u16,
-    levels: &'static [u8],
-    cables: &'static [Ends],
+    network: Network,
     reports: &'static [(u16, u64)],
     doomed: &'static [u16],
-    times: &'static [(u16, Option<u64>)],
+    times: &'static [(u16, Option<Ts>)],
     useless: &'static [u16],
 }
+
+// Two hosts under one switch and three under another, with two ways between them.
+const FIVE_HOSTS: Network = Network {
+    hosts: 5,
+    levels: &[1, 1, 2, 2],
+    cables: &[
+        (0, 100),
+        (1, 100),
+        (2, 101),
+        (3, 101),
+        (4, 101),
+        (100, 102),
+        (100, 103),
+        (101, 102),
+        (101, 103),
+    ],
+    patience: 100,
+};
 
 static CASES: [Case; 3] = [
     // Both ways up from a switch with two hosts, of five.
     Case {
-        hosts: 5,
-        levels: &[1, 1, 2, 2],
-        cables: &[
-            (0, 100),
-            (1, 100),
-            (2, 101),
-            (3, 101),
-            (4, 101),
-            (100, 102),
-            (100, 103),
-            (101, 102),
-            (101, 103),
-        ],
+        network: FIVE_HOSTS,
         reports: &[(10, 30), (12, 35)],
         doomed: &[0, 1],
-        times: &[(0, Some(35)), (1, Some(35))],
+        times: &[(0, Some(Ts(35))), (1, Some(Ts(35)))],
         useless: &[0, 2, 18],
     },
     // One of two ways between two hosts.
     Case {
-        hosts: 2,
-        levels: &[1, 1, 2, 2],
-        cables: &[
-            (0, 100),
-            (1, 101),
-            (100, 102),
-            (100, 103),
-            (101, 102),
-            (101, 103),
-        ],
+        network: TWO_WAYS,
         reports: &[(4, 0)],
         doomed: &[],
-        times: &[(0, Some(0))],
+        times: &[(0, Some(Ts(0)))],
         useless: &[],
     },
     // A star without reports.
     Case {
-        hosts: 2,
-        levels: &[1],
-        cables: &[(0, 100), (1, 100)],
+        network: TWO_HOSTS,
         reports: &[],
         doomed: &[],
         times: &[(0, None)],
         useless: &[],
     },
 ];
-
-fn end_of(number: u16) -> CableEnd {
-    if number < 100 {
-        CableEnd::Host(number)
-    } else {
-        CableEnd::Switch(number - 100)
-    }
-}
-
-fn plan_of(alloc: Global, case: &Case) -> Result<Plan, NoMemory> {
-    let mut cables = List::new(alloc);
-    for (one, other) in case.cables {
-        cables.push((end_of(*one), end_of(*other)))?;
-    }
-    Ok(Plan {
-        hosts: case.hosts,
-        levels: List::from_vec(Vec::from_slice(alloc, case.levels)?),
-        cables,
-        patience: Ts(100),
-    })
-}
-
-fn build(rt: &impl Abort, alloc: Global, case: &Case) -> Result<Topology, TopoFault> {
-    let plan = plan_of(alloc, case)?;
-    assert!(rt; plan.has_ends() && plan.levels.len() < 1000 && plan.cables.len() < 1000);
-    Topology::build(alloc, &plan)
-}
 
 fn reports_of(
     rt: &impl Abort,
@@ -161,7 +125,7 @@ fn have_times(
     topology: &Topology,
     live: &LinkSet,
     reports: &Reports,
-    times: &[(u16, Option<u64>)],
+    times: &[(u16, Option<Ts>)],
 ) -> Result<(), NoMemory>
     requires live { length live.now ≡ length topology.now.links }
     requires reports { length reports.now ≡ length topology.now.links }
@@ -169,7 +133,7 @@ fn have_times(
     for (host, time) in times {
         assert!(rt; *host < topology.hosts());
         let found = failure_time(alloc, topology, HostId(*host), live, reports)?;
-        assert!(rt; found.map(|ts| ts.0) == *time);
+        assert!(rt; found == *time);
     }
     Ok(())
 }
@@ -193,31 +157,38 @@ fn are_useless(
     Ok(())
 }
 
-fn holds(rt: &impl Abort, alloc: Global, case: &Case) -> Result<(), TopoFault> {
-    let topology = build(rt, alloc, case)?;
-    let live = LinkSet::all(alloc, topology.links())?;
-    let reports = reports_of(rt, alloc, topology.links(), case.reports)?;
+fn decide(
+    rt: &impl Abort,
+    alloc: Global,
+    topology: &Topology,
+    live: &LinkSet,
+    reports: &Reports,
+    case: &Case,
+) -> Result<(), NoMemory>
+    requires live { length live.now ≡ length topology.now.links }
+    requires reports { length reports.now ≡ length topology.now.links }
+{
     let members = HostSet::first(topology.hosts());
-    let gone = doomed(
-        alloc,
-        &topology,
-        &members,
-        &live,
-        &reports,
-        &HostSet::none(),
-    )?;
+    let none = HostSet::none();
+    let gone = doomed(alloc, topology, &members, live, reports, &none)?;
     let kept = kept_of(rt, topology.hosts(), &gone);
     are(rt, &gone, case.doomed);
-    are_cut(rt, alloc, &topology, &live, &reports, &kept, case.doomed)?;
-    have_times(rt, alloc, &topology, &live, &reports, case.times)?;
-    are_useless(rt, alloc, &topology, &live, &reports, &kept, case.useless)?;
-    Ok(())
+    are_cut(rt, alloc, topology, live, reports, &kept, case.doomed)?;
+    have_times(rt, alloc, topology, live, reports, case.times)?;
+    are_useless(rt, alloc, topology, live, reports, &kept, case.useless)
+}
+
+fn play(rt: &impl Abort, alloc: Global, case: &Case) -> Result<(), TopoFault> {
+    let topology = build(rt, alloc, &case.network)?;
+    let live = LinkSet::all(alloc, topology.links())?;
+    let reports = reports_of(rt, alloc, topology.links(), case.reports)?;
+    Ok(decide(rt, alloc, &topology, &live, &reports, case)?)
 }
 
 #[test]
 fn who_must_go(rt: HostRuntime) -> Result<(), TopoFault> {
     for case in &CASES {
-        holds(&rt, rt.alloc(), case)?;
+        play(&rt, rt.alloc(), case)?;
     }
     Ok(())
 }

@@ -1,5 +1,6 @@
 //! Tests of the parts of the protocol, over what their crates show. They stand apart, since a crate with tests is proved
-//! twice, with and without them.
+//! twice, with and without them. What a function tests it borrows, and it plays a table: each end of what a function owns is
+//! proved, at each place where it may end.
 #![tactic(auto)]
 
 #[cfg(test)]
@@ -16,6 +17,8 @@ mod host;
 mod in_links;
 #[cfg(test)]
 mod model;
+#[cfg(test)]
+mod network;
 #[cfg(test)]
 mod registers;
 #[cfg(test)]

@@ -1,18 +1,55 @@
 // The registers of a node over calls worked out by hand.
 
 use pipe_barrier::Registers;
-use pipe_base::{LinkId, Ts};
-use std::test::Fail;
+use pipe_base::{LinkId, NoMemory, Ts};
+use std::process::Abort;
 
 const A: LinkId = LinkId(4);
 
 const B: LinkId = LinkId(7);
+
+const NONE: LinkId = LinkId(5);
 
 #[derive(Clone, Copy)]
 enum Call {
     Raise(LinkId, u64, u64),
     Down(LinkId),
     Remove(LinkId),
+}
+
+/// Whether a link is up, whether it is removed, and its commit register.
+type Told = (bool, bool, u64);
+
+// Each call with the two barriers after it and what is told of A, worked out by hand from the rule: the barrier follows the
+// least register of the links in use and never falls; a link that is down stays in commit use until it is removed.
+static CALLS: [(Call, u64, u64, Told); 10] = [
+    (Call::Raise(A, 5, 3), 0, 0, (true, false, 3)),
+    (Call::Raise(B, 7, 4), 5, 3, (true, false, 3)),
+    (Call::Raise(B, 6, 9), 5, 3, (true, false, 3)),
+    (Call::Raise(A, 10, 8), 7, 8, (true, false, 8)),
+    (Call::Down(A), 7, 8, (false, false, 8)),
+    (Call::Raise(B, 20, 30), 20, 8, (false, false, 8)),
+    (Call::Remove(A), 20, 30, (false, true, 8)),
+    (Call::Raise(B, 21, 31), 21, 31, (false, true, 8)),
+    (Call::Down(B), 21, 31, (false, true, 8)),
+    (Call::Remove(B), 21, 31, (false, true, 8)),
+];
+
+fn tells(registers: &Registers, link: LinkId, told: Told) -> bool {
+    registers.is_up(link) == told.0
+        && registers.is_removed(link) == told.1
+        && registers.frozen(link).0 == told.2
+}
+
+// What a raise leads to is known before it is made.
+fn foretells(registers: &Registers, call: Call, be: u64, commit: u64) -> bool {
+    match call {
+        Call::Raise(link, raised_be, raised_commit) => {
+            let raised = registers.raised(link, Ts(raised_be), Ts(raised_commit));
+            raised.be.0 == be && raised.commit.0 == commit
+        }
+        _ => true,
+    }
 }
 
 fn make(registers: &mut Registers, call: Call) {
@@ -23,64 +60,22 @@ fn make(registers: &mut Registers, call: Call) {
     }
 }
 
-// Each call with the two barriers after it, worked out by hand from the rule: the barrier
-// follows the least register of the links in use and never falls; a link that is down stays
-// in commit use until it is removed.
-#[test]
-fn barriers_follow_the_links_in_use(rt: HostRuntime) -> Result<(), Fail> {
-    let mut registers = Registers::new(rt.alloc(), [A, B].as_slice())?;
-    for (call, be, commit) in [
-        (Call::Raise(A, 5, 3), 0, 0),
-        (Call::Raise(B, 7, 4), 5, 3),
-        (Call::Raise(B, 6, 9), 5, 3),
-        (Call::Raise(A, 10, 8), 7, 8),
-        (Call::Down(A), 7, 8),
-        (Call::Raise(B, 20, 30), 20, 8),
-        (Call::Remove(A), 20, 30),
-        (Call::Raise(B, 21, 31), 21, 31),
-        (Call::Down(B), 21, 31),
-        (Call::Remove(B), 21, 31),
-    ] {
-        if let Call::Raise(link, raised_be, raised_commit) = call {
-            let raised = registers.raised(link, Ts(raised_be), Ts(raised_commit));
-            assert_eq!(rt; (raised.be, raised.commit), (Ts(be), Ts(commit)));
-        }
-        make(&mut registers, call);
-        assert_eq!(rt; (registers.be(), registers.commit()), (Ts(be), Ts(commit)));
+fn make_all(rt: &impl Abort, registers: &mut Registers) {
+    for (call, be, commit, told) in &CALLS {
+        assert!(rt; foretells(registers, *call, *be, *commit));
+        make(registers, *call);
+        assert!(rt; registers.be().0 == *be && registers.commit().0 == *commit);
+        assert!(rt; tells(registers, A, *told));
     }
-    Ok(())
 }
 
 #[test]
-fn tells_of_a_link(rt: HostRuntime) -> Result<(), Fail> {
+fn barriers_follow_the_links_in_use(rt: HostRuntime) -> Result<(), NoMemory> {
     let mut registers = Registers::new(rt.alloc(), [A, B].as_slice())?;
-    registers.raise(A, Ts(2), Ts(1));
-    registers.down(A);
-    assert_eq!(rt;
-        (
-            registers.is_up(A),
-            registers.is_removed(A),
-            registers.frozen(A)
-        ),
-        (false, false, Ts(1))
+    assert!(rt;
+        tells(&registers, B, (true, false, 0)) && tells(&registers, NONE, (false, false, 0))
     );
-    registers.remove(A);
-    let copy = registers.try_clone()?;
-    assert_eq!(rt;
-        (copy.is_up(A), copy.is_removed(A), copy.frozen(A)),
-        (false, true, Ts(1))
-    );
-    assert_eq!(rt;
-        (copy.is_up(B), copy.is_removed(B), copy.frozen(B)),
-        (true, false, Ts(0))
-    );
-    assert_eq!(rt;
-        (
-            copy.is_up(LinkId(5)),
-            copy.is_removed(LinkId(5)),
-            copy.frozen(LinkId(5))
-        ),
-        (false, false, Ts(0))
-    );
+    make_all(&rt, &mut registers);
+    assert!(rt; tells(&registers.try_clone()?, B, (false, true, 31)));
     Ok(())
 }

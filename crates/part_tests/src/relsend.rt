@@ -5,7 +5,6 @@ use pipe_base::{Body, DestList, HostId, LinkId, List, NoMemory, Router, Step, Ts
 use pipe_relsend::{AckStep, Preparing, Sender, Window};
 use std::alloc::Global;
 use std::process::Abort;
-use std::test::Fail;
 
 /// A router that knows no way, so that a step counts what is owed.
 struct NoWay;
@@ -39,80 +38,89 @@ fn two(alloc: Global, first: u16, second: u16) -> Result<DestList, NoMemory>
     Ok(dests)
 }
 
-fn make(alloc: Global, sender: &mut Sender, call: Call) -> Result<(), NoMemory> {
+/// Whether it is begun; of an acknowledgement, whether it is one.
+fn make(alloc: Global, sender: &mut Sender, call: Call) -> Result<bool, NoMemory> {
     match call {
         Call::Begin(ts, first, second) => {
-            let _ = sender.begin(Ts(ts), two(alloc, first, second)?);
+            let dests = two(alloc, first, second)?;
+            Ok(sender.begin(Ts(ts), dests).is_ok())
         }
-        Call::Ack(ts, host) => sender.ack(Ts(ts), HostId(host)),
+        Call::Ack(ts, host) => {
+            sender.ack(Ts(ts), HostId(host));
+            Ok(true)
+        }
+    }
+}
+
+const NEXT: Ts = Ts(99);
+
+// Each call with the scatterings that are not settled after it, the promise, and how many messages are owed again.
+static CALLS: [(Call, u16, u64, u32); 10] = [
+    (Call::Ack(10, 1), 0, 99, 0),
+    (Call::Begin(10, 1, 2), 1, 10, 2),
+    (Call::Begin(20, 2, 3), 2, 10, 4),
+    (Call::Ack(10, 3), 2, 10, 4),
+    (Call::Ack(10, 2), 2, 10, 3),
+    (Call::Ack(10, 2), 2, 10, 3),
+    (Call::Ack(20, 3), 2, 10, 2),
+    (Call::Ack(10, 1), 1, 20, 1),
+    (Call::Ack(10, 1), 1, 20, 1),
+    (Call::Ack(20, 2), 0, 99, 0),
+];
+
+// What the sender will promise after an acknowledgement is known before.
+fn foretells(sender: &Sender, call: Call, promise: u64) -> bool {
+    match call {
+        Call::Ack(ts, host) => sender.promise_after_ack(Ts(ts), HostId(host), NEXT).0 == promise,
+        Call::Begin(_, _, _) => true,
+    }
+}
+
+fn owed(alloc: Global, sender: &Sender) -> Result<u32, NoMemory> {
+    let mut step = Step::new(alloc);
+    sender.resends(HostId(0), NEXT, &NoWay, &mut step)?;
+    Ok(step.unrouted)
+}
+
+fn make_all(rt: &impl Abort, alloc: Global, sender: &mut Sender) -> Result<(), NoMemory> {
+    for (call, unsettled, promise, count) in &CALLS {
+        assert!(rt; foretells(sender, *call, *promise));
+        assert!(rt; make(alloc, sender, *call)?);
+        assert!(rt; sender.unsettled() == *unsettled && sender.promise(NEXT).0 == *promise);
+        assert!(rt; owed(alloc, sender)? == *count);
     }
     Ok(())
 }
 
-// Each call with the scatterings that are not settled after it, the promise, and how many messages are owed again.
-#[test]
-fn settles_what_all_receivers_acknowledged(rt: HostRuntime) -> Result<(), Fail> {
-    let mut sender = Sender::new(rt.alloc())?;
-    let next = Ts(99);
-    for (call, unsettled, promise, owed) in [
-        (Call::Ack(10, 1), 0, 99, 0),
-        (Call::Begin(10, 1, 2), 1, 10, 2),
-        (Call::Begin(20, 2, 3), 2, 10, 4),
-        (Call::Ack(10, 3), 2, 10, 4),
-        (Call::Ack(10, 2), 2, 10, 3),
-        (Call::Ack(10, 2), 2, 10, 3),
-        (Call::Ack(20, 3), 2, 10, 2),
-        (Call::Ack(10, 1), 1, 20, 1),
-        (Call::Ack(10, 1), 1, 20, 1),
-        (Call::Ack(20, 2), 0, 99, 0),
-    ] {
-        if let Call::Ack(ts, host) = call {
-            let after = sender.promise_after_ack(Ts(ts), HostId(host), next);
-            assert_eq!(rt; after, Ts(promise));
-        }
-        make(rt.alloc(), &mut sender, call)?;
-        let mut step = Step::new(rt.alloc());
-        sender.resends(HostId(0), next, &NoWay, &mut step)?;
-        assert_eq!(rt;
-            (sender.unsettled(), sender.promise(next), step.unrouted),
-            (unsettled, Ts(promise), owed)
-        );
+fn is_refused(alloc: Global, sender: &mut Sender) -> Result<bool, NoMemory> {
+    let dests = two(alloc, 1, 2)?;
+    match sender.begin(Ts(16), dests) {
+        Ok(()) => Ok(false),
+        Err(Window { dests }) => Ok(dests.len() == 2),
     }
-    Ok(())
 }
 
 // Sixteen are accepted, the next one comes back; one that is taken back makes room.
-#[test]
-fn keeps_within_the_window(rt: HostRuntime) -> Result<(), Fail> {
-    let mut sender = Sender::new(rt.alloc())?;
+fn fill(rt: &impl Abort, alloc: Global, sender: &mut Sender) -> Result<(), NoMemory> {
     for ts in 0..16 {
-        make(rt.alloc(), &mut sender, Call::Begin(ts, 1, 2))?;
+        assert!(rt; make(alloc, sender, Call::Begin(ts, 1, 2))?);
     }
-    assert_eq!(rt; sender.unsettled(), 16);
-    match sender.begin(Ts(16), two(rt.alloc(), 1, 2)?) {
-        Ok(()) => assert!(rt; false),
-        Err(Window { dests }) => assert_eq!(rt; dests.len(), 2),
-    }
+    assert!(rt; sender.unsettled() == 16 && is_refused(alloc, sender)?);
     sender.unbegin();
-    let copy = sender.try_clone()?;
-    assert_eq!(rt; (copy.unsettled(), copy.promise(Ts(99))), (15, Ts(0)));
+    assert!(rt; sender.unsettled() == 15 && sender.promise(NEXT).0 == 0);
     Ok(())
 }
 
 #[test]
-fn is_prepared_by_its_last_receiver(rt: HostRuntime) -> Result<(), Fail> {
-    let preparing = Preparing::start(Ts(7), two(rt.alloc(), 4, 5)?);
-    let mut acked = (preparing.acked(HostId(4)), preparing.acked(HostId(5)));
-    assert_eq!(rt; acked, (false, false));
-    match preparing.ack(HostId(5)) {
-        AckStep::Still(preparing) => {
-            acked = (preparing.acked(HostId(4)), preparing.acked(HostId(5)));
-            finish(&rt, preparing, HostId(4));
-        }
-        AckStep::Ready(prepared) => prepared.spend(),
-    }
-    assert_eq!(rt; acked, (false, true));
-    Ok(())
+fn settles_what_all_receivers_acknowledged(rt: HostRuntime) -> Result<(), NoMemory> {
+    let mut sender = Sender::new(rt.alloc())?;
+    make_all(&rt, rt.alloc(), &mut sender)?;
+    fill(&rt, rt.alloc(), &mut sender.try_clone()?)
+}
+
+/// Whether the first of two receivers and the second have acknowledged it.
+fn acked(preparing: &Preparing) -> (bool, bool) {
+    (preparing.acked(HostId(4)), preparing.acked(HostId(5)))
 }
 
 /// Spends a scattering for which this is the last acknowledgement.
@@ -121,4 +129,19 @@ fn finish(rt: &impl Abort, preparing: Preparing, last: HostId) {
         AckStep::Still(_unsettled) => rt.abort(),
         AckStep::Ready(prepared) => prepared.spend(),
     }
+}
+
+#[test]
+fn is_prepared_by_its_last_receiver(rt: HostRuntime) -> Result<(), NoMemory> {
+    let preparing = Preparing::start(Ts(7), two(rt.alloc(), 4, 5)?);
+    let before = acked(&preparing);
+    match preparing.ack(HostId(5)) {
+        AckStep::Still(preparing) => {
+            let after = acked(&preparing);
+            finish(&rt, preparing, HostId(4));
+            assert!(rt; before == (false, false) && after == (false, true));
+        }
+        AckStep::Ready(_prepared) => rt.abort(),
+    }
+    Ok(())
 }

@@ -1,70 +1,102 @@
 // Held messages, passed by a barrier.
 
-use pipe_base::{Body, Fate, HostId, Key, List, Message, NoMemory, Service, Ts};
+use pipe_base::{Body, Fate, HostId, Key, List, LoggedList, Message, NoMemory, Service, Ts};
 use pipe_reorder::Reorder;
 use std::alloc::Global;
-use std::test::Fail;
+use std::process::Abort;
 
-fn message(alloc: Global, ts: u64, src: u16) -> Result<Message, NoMemory> {
-    Ok(Message {
+/// A message by its timestamp and its sender.
+type Named = (u64, u16);
+
+// Each message that comes and its fate, then a barrier that passes, and what is logged.
+struct Round {
+    places: &'static [(u64, u16, Fate)],
+    barrier: u64,
+    logged: &'static [Named],
+    held: usize,
+}
+
+// A message is logged once the barrier is above its timestamp, by timestamp and then by sender.
+static ROUNDS: [Round; 2] = [
+    Round {
+        places: &[
+            (105, 1, Fate::Held),
+            (103, 2, Fate::Held),
+            (105, 0, Fate::Held),
+            (101, 3, Fate::Held),
+            (105, 1, Fate::Repeat),
+        ],
+        barrier: 105,
+        logged: &[(101, 3), (103, 2)],
+        held: 2,
+    },
+    Round {
+        places: &[
+            (104, 2, Fate::Late { barrier: Ts(105) }),
+            (105, 2, Fate::Held),
+        ],
+        barrier: 106,
+        logged: &[(105, 0), (105, 1), (105, 2)],
+        held: 0,
+    },
+];
+
+fn message(alloc: Global, ts: u64, src: u16) -> Message {
+    Message {
         service: Service::BestEffort,
         src: HostId(src),
         dst: HostId(9),
         ts: Ts(ts),
         body: Body::empty(alloc),
-    })
+    }
 }
 
-// The timestamps and senders that a barrier logs.
-fn passed(alloc: Global, held: &mut Reorder, barrier: u64) -> Result<Vec<(u64, u16)>, NoMemory> {
-    let mut out = List::new(alloc);
-    held.pass(Ts(barrier), &mut out)?;
-    let mut keys = Vec::new(alloc);
-    for (_, entry) in out.as_slice() {
-        keys.push((entry.key.ts.0, entry.key.src.0))?;
+fn place_all(
+    rt: &impl Abort,
+    alloc: Global,
+    held: &mut Reorder,
+    places: &[(u64, u16, Fate)],
+) -> Result<(), NoMemory> {
+    for (ts, src, fate) in places {
+        assert!(rt; held.place(message(alloc, *ts, *src))? == *fate);
     }
-    Ok(keys)
+    Ok(())
 }
 
-// A message is logged once the barrier is above its timestamp, by timestamp and then by sender.
-#[test]
-fn logs_in_the_total_order(rt: HostRuntime) -> Result<(), Fail> {
-    let mut held = Reorder::new(rt.alloc(), Service::BestEffort);
-    for (ts, src, fate) in [
-        (105, 1, Fate::Held),
-        (103, 2, Fate::Held),
-        (105, 0, Fate::Held),
-        (101, 3, Fate::Held),
-        (105, 1, Fate::Repeat),
-    ] {
-        assert_eq!(rt; held.place(message(rt.alloc(), ts, src)?)?, fate);
+fn are_logged(rt: &impl Abort, logged: &LoggedList, wanted: &[Named]) {
+    assert!(rt; logged.len() == wanted.len());
+    for ((_, entry), (ts, src)) in logged.as_slice().iter().zip(wanted) {
+        assert!(rt; entry.key.ts.0 == *ts && entry.key.src.0 == *src);
     }
-    let logged = passed(rt.alloc(), &mut held, 105)?;
-    assert_eq!(rt; logged.as_slice(), [(101, 3), (103, 2)].as_slice());
-    assert_eq!(rt; (held.len(), held.barrier()), (2, Ts(105)));
-    let late = Fate::Late { barrier: Ts(105) };
-    assert_eq!(rt; held.place(message(rt.alloc(), 104, 2)?)?, late);
-    assert_eq!(rt; held.place(message(rt.alloc(), 105, 2)?)?, Fate::Held);
-    let logged = passed(rt.alloc(), &mut held, 106)?;
-    assert_eq!(rt;
-        logged.as_slice(),
-        [(105, 0), (105, 1), (105, 2)].as_slice()
-    );
-    assert_eq!(rt; held.len(), 0);
+}
+
+fn play(rt: &impl Abort, alloc: Global, held: &mut Reorder) -> Result<(), NoMemory> {
+    for round in &ROUNDS {
+        place_all(rt, alloc, held, round.places)?;
+        let mut logged = List::new(alloc);
+        held.pass(Ts(round.barrier), &mut logged)?;
+        are_logged(rt, &logged, round.logged);
+        assert!(rt; held.len() == round.held && held.barrier().0 == round.barrier);
+    }
+    Ok(())
+}
+
+const KEY: Key = Key {
+    ts: Ts(7),
+    src: HostId(1),
+};
+
+fn hold_and_undo(rt: &impl Abort, alloc: Global, held: &mut Reorder) -> Result<(), NoMemory> {
+    held.hold(KEY, Body::empty(alloc))?;
+    assert!(rt; held.holds(KEY));
+    held.unhold(KEY);
+    assert!(rt; !held.holds(KEY) && held.len() == 0);
     Ok(())
 }
 
 #[test]
-fn undoes_a_hold(rt: HostRuntime) -> Result<(), Fail> {
-    let key = Key {
-        ts: Ts(7),
-        src: HostId(1),
-    };
+fn logs_in_the_total_order(rt: HostRuntime) -> Result<(), NoMemory> {
     let mut held = Reorder::new(rt.alloc(), Service::BestEffort);
-    held.hold(key, Body::empty(rt.alloc()))?;
-    assert!(rt; held.holds(key));
-    held.unhold(key);
-    assert!(rt; !held.holds(key));
-    assert_eq!(rt; held.len(), 0);
-    Ok(())
+    hold_and_undo(&rt, rt.alloc(), &mut held)?;
+    play(&rt, rt.alloc(), &mut held)
 }

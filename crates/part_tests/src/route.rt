@@ -1,36 +1,134 @@
 // Routes in a network of two ways, in a star and in a fat tree.
-use CableEnd::{Host, Switch};
-use pipe_base::{HostId, LinkId, List, NoMemory, NodeId, Router, Ts};
+
+use crate::network::{Network, TWO_WAYS, build};
+use pipe_base::{HostId, LinkId, NoMemory, NodeId, Router};
 use pipe_route::Routes;
-use pipe_topo::{Cable, CableEnd, LinkSet, Plan, Topology};
+use pipe_topo::{LinkSet, TopoFault, Topology};
 use std::alloc::Global;
 use std::process::Abort;
-use std::test::Fail;
 
-fn network(
-    rt: &impl Abort,
-    alloc: Global,
-    hosts: u16,
-    levels: &[u8],
-    cables: &[Cable],
-) -> Result<Option<Topology>, NoMemory> {
-    let plan = Plan {
-        hosts,
-        levels: List::from_vec(Vec::from_slice(alloc, levels)?),
-        cables: List::from_vec(Vec::from_slice(alloc, cables)?),
-        patience: Ts(100),
-    };
-    Ok(built(rt, alloc, &plan))
+/// A sender, a receiver, and the link on which the packet goes.
+type Way = (u16, u16, Option<u16>);
+
+/// The ways at a node of a network, with one link dropped or none.
+struct Case {
+    network: Network,
+    node: u16,
+    dropped: Option<u16>,
+    ways: &'static [Way],
 }
 
-fn built(rt: &impl Abort, alloc: Global, plan: &Plan) -> Option<Topology> {
-    assert!(rt; plan.has_ends());
-    assert!(rt; plan.levels.len() < 1000);
-    assert!(rt; plan.cables.len() < 1000);
-    Topology::build(alloc, plan).ok()
-}
+const STAR: Network = Network {
+    hosts: 3,
+    levels: &[1],
+    cables: &[(0, 100), (1, 100), (2, 100)],
+    patience: 100,
+};
 
-// The routes of a node, with one link dropped or none.
+// Two edges and two aggregations in each of two pods, and two cores: host i at edge i.
+const FAT_TREE: Network = Network {
+    hosts: 4,
+    levels: &[1, 1, 1, 1, 2, 2, 2, 2, 3, 3],
+    cables: &[
+        (0, 100),
+        (1, 101),
+        (2, 102),
+        (3, 103),
+        (100, 104),
+        (100, 105),
+        (101, 104),
+        (101, 105),
+        (102, 106),
+        (102, 107),
+        (103, 106),
+        (103, 107),
+        (104, 108),
+        (105, 109),
+        (106, 108),
+        (107, 109),
+    ],
+    patience: 100,
+};
+
+static CASES: [Case; 9] = [
+    // Equal ways take turns.
+    Case {
+        network: TWO_WAYS,
+        node: 2,
+        dropped: None,
+        ways: &[
+            (0, 1, Some(6)),
+            (1, 1, Some(4)),
+            (0, 0, Some(12)),
+            (0, 2, None),
+        ],
+    },
+    Case {
+        network: TWO_WAYS,
+        node: 2,
+        dropped: Some(6),
+        ways: &[(0, 1, Some(4)), (1, 1, Some(4)), (0, 0, Some(12))],
+    },
+    // A star has one way.
+    Case {
+        network: STAR,
+        node: 0,
+        dropped: None,
+        ways: &[(0, 0, Some(0)), (1, 0, Some(0)), (2, 0, Some(0))],
+    },
+    Case {
+        network: STAR,
+        node: 1,
+        dropped: None,
+        ways: &[(0, 2, Some(2)), (1, 2, Some(2)), (2, 2, Some(2))],
+    },
+    Case {
+        network: STAR,
+        node: 3,
+        dropped: None,
+        ways: &[(0, 1, Some(6)), (1, 1, Some(6)), (2, 1, Some(6))],
+    },
+    Case {
+        network: STAR,
+        node: 4,
+        dropped: None,
+        ways: &[(0, 0, Some(1)), (1, 0, Some(1)), (2, 0, Some(1))],
+    },
+    Case {
+        network: STAR,
+        node: 4,
+        dropped: None,
+        ways: &[(0, 2, Some(5)), (1, 2, Some(5)), (2, 2, Some(5))],
+    },
+    Case {
+        network: FAT_TREE,
+        node: 4,
+        dropped: None,
+        ways: &[
+            (0, 1, Some(10)),
+            (1, 1, Some(8)),
+            (0, 2, Some(8)),
+            (0, 3, Some(10)),
+            (3, 3, Some(8)),
+            (2, 0, Some(32)),
+        ],
+    },
+    // Without the way from the first core down to the second pod.
+    Case {
+        network: FAT_TREE,
+        node: 4,
+        dropped: Some(29),
+        ways: &[
+            (0, 1, Some(10)),
+            (1, 1, Some(8)),
+            (0, 2, Some(10)),
+            (0, 3, Some(10)),
+            (3, 3, Some(10)),
+            (2, 0, Some(32)),
+        ],
+    },
+];
+
 fn routes_at(
     rt: &impl Abort,
     alloc: Global,
@@ -47,60 +145,20 @@ fn routes_at(
     Routes::build(alloc, topology, NodeId(node), &set)
 }
 
-fn pick(routes: &Routes, src: u16, dst: u16) -> Option<u16> {
-    let link = routes.pick(HostId(src), HostId(dst))?;
-    Some(link.0)
-}
-
-// Senders, receivers, and the links on which the packets go.
-fn expect(rt: &impl Abort, routes: &Routes, cases: &[(u16, u16, Option<u16>)]) {
-    for (src, dst, link) in cases {
-        assert_eq!(rt; pick(routes, *src, *dst), *link, "from {src} to {dst}");
+fn goes(routes: &Routes, src: u16, dst: u16, wanted: Option<u16>) -> bool {
+    match routes.pick(HostId(src), HostId(dst)) {
+        Some(link) => wanted == Some(link.0),
+        None => wanted.is_none(),
     }
 }
 
-// Two hosts under two switches, which two higher switches join.
-fn two_ways(rt: &impl Abort, alloc: Global) -> Result<Option<Topology>, NoMemory> {
-    let cables = [
-        (Host(0), Switch(0)),
-        (Host(1), Switch(1)),
-        (Switch(0), Switch(2)),
-        (Switch(0), Switch(3)),
-        (Switch(1), Switch(2)),
-        (Switch(1), Switch(3)),
-    ];
-    network(rt, alloc, 2, &[1, 1, 2, 2], &cables)
+fn expect(rt: &impl Abort, routes: &Routes, ways: &[Way]) {
+    for (src, dst, link) in ways {
+        assert!(rt; goes(routes, *src, *dst, *link), "from {src} to {dst}");
+    }
 }
 
-#[test]
-fn two_ways_take_turns(rt: HostRuntime) -> Result<(), Fail> {
-    let topology = two_ways(&rt, rt.alloc())?.ok_or("refused")?;
-    let routes = routes_at(&rt, rt.alloc(), &topology, 2, None)?.try_clone()?;
-    let cases = [
-        (0, 1, Some(6)),
-        (1, 1, Some(4)),
-        (0, 0, Some(12)),
-        (0, 2, None),
-    ];
-    expect(&rt, &routes, &cases);
-    Ok(())
-}
-
-#[test]
-fn a_dropped_way_is_taken_no_more(rt: HostRuntime) -> Result<(), Fail> {
-    let topology = two_ways(&rt, rt.alloc())?.ok_or("refused")?;
-    let mut routes = routes_at(&rt, rt.alloc(), &topology, 2, Some(6))?;
-    expect(
-        &rt,
-        &routes,
-        &[(0, 1, Some(4)), (1, 1, Some(4)), (0, 0, Some(12))],
-    );
-    rebuild_without(&rt, rt.alloc(), &topology, &mut routes)?;
-    expect(&rt, &routes, &[(0, 1, None), (1, 1, None), (0, 0, None)]);
-    Ok(())
-}
-
-// With all links dropped.
+// A copy from which all links are taken has no way.
 fn rebuild_without(
     rt: &impl Abort,
     alloc: Global,
@@ -109,76 +167,26 @@ fn rebuild_without(
 ) -> Result<(), NoMemory> {
     assert!(rt; routes.node().0 < topology.nodes());
     let all = LinkSet::all(alloc, topology.links())?;
-    routes.rebuild(topology, &all)
-}
-
-#[test]
-fn a_star_has_one_way(rt: HostRuntime) -> Result<(), Fail> {
-    let plan = Plan::star(rt.alloc(), 3, Ts(100))?;
-    let topology = built(&rt, rt.alloc(), &plan).ok_or("refused")?;
-    for (node, dst, link) in [(0, 0, 0), (1, 2, 2), (3, 1, 6), (4, 0, 1), (4, 2, 5)] {
-        let routes = routes_at(&rt, rt.alloc(), &topology, node, None)?;
-        expect(
-            &rt,
-            &routes,
-            &[
-                (0, dst, Some(link)),
-                (1, dst, Some(link)),
-                (2, dst, Some(link)),
-            ],
-        );
-    }
+    routes.rebuild(topology, &all)?;
+    expect(rt, routes, &[(0, 1, None), (1, 1, None), (0, 0, None)]);
     Ok(())
 }
 
-// Two edges and two aggregations in each of two pods, and two cores: host i at edge i.
-fn fat_tree(rt: &impl Abort, alloc: Global) -> Result<Option<Topology>, NoMemory> {
-    let cables = [
-        (Host(0), Switch(0)),
-        (Host(1), Switch(1)),
-        (Host(2), Switch(2)),
-        (Host(3), Switch(3)),
-        (Switch(0), Switch(4)),
-        (Switch(0), Switch(5)),
-        (Switch(1), Switch(4)),
-        (Switch(1), Switch(5)),
-        (Switch(2), Switch(6)),
-        (Switch(2), Switch(7)),
-        (Switch(3), Switch(6)),
-        (Switch(3), Switch(7)),
-        (Switch(4), Switch(8)),
-        (Switch(5), Switch(9)),
-        (Switch(6), Switch(8)),
-        (Switch(7), Switch(9)),
-    ];
-    network(rt, alloc, 4, &[1, 1, 1, 1, 2, 2, 2, 2, 3, 3], &cables)
+fn look(rt: &impl Abort, alloc: Global, topology: &Topology, case: &Case) -> Result<(), NoMemory> {
+    let routes = routes_at(rt, alloc, topology, case.node, case.dropped)?;
+    expect(rt, &routes, case.ways);
+    rebuild_without(rt, alloc, topology, &mut routes.try_clone()?)
+}
+
+fn play(rt: &impl Abort, alloc: Global, case: &Case) -> Result<(), TopoFault> {
+    let topology = build(rt, alloc, &case.network)?;
+    Ok(look(rt, alloc, &topology, case)?)
 }
 
 #[test]
-fn equal_paths_of_a_fat_tree_take_turns(rt: HostRuntime) -> Result<(), Fail> {
-    let topology = fat_tree(&rt, rt.alloc())?.ok_or("refused")?;
-    let all = [
-        (0, 1, 10),
-        (1, 1, 8),
-        (0, 2, 8),
-        (0, 3, 10),
-        (3, 3, 8),
-        (2, 0, 32),
-    ];
-    // without the way from the first core down to the second pod
-    let most = [
-        (0, 1, 10),
-        (1, 1, 8),
-        (0, 2, 10),
-        (0, 3, 10),
-        (3, 3, 10),
-        (2, 0, 32),
-    ];
-    for (dropped, cases) in [(None, all), (Some(29), most)] {
-        let routes = routes_at(&rt, rt.alloc(), &topology, 4, dropped)?;
-        for (src, dst, link) in cases {
-            expect(&rt, &routes, &[(src, dst, Some(link))]);
-        }
+fn ways_are_shortest_and_take_turns(rt: HostRuntime) -> Result<(), TopoFault> {
+    for case in &CASES {
+        play(&rt, rt.alloc(), case)?;
     }
     Ok(())
 }

@@ -1,196 +1,10 @@
-// Networks of known shape, each fault once, and sets and names. Tables hold numbers and texts, and the helpers promise
-// little, so that a test has few facts to carry.
+// A network of known shape, and sets and names. Each fault of a network is shown by the program, in `.ci`.
 
-use pipe_base::{HostId, LinkId, List, NoMemory, NodeId, Ts};
-use pipe_topo::{CableEnd, HostSet, LinkSet, Names, Plan, TopoFault, Topology};
-use std::alloc::{AllocError, Global};
+use crate::network::{TWO_WAYS, build};
+use pipe_base::{HostId, LinkId, NoMemory, NodeId};
+use pipe_topo::{HostSet, LinkSet, Names, TopoFault, Topology};
+use std::alloc::Global;
 use std::process::Abort;
-
-// A cable between two ends: a host by its number, a switch by a hundred more.
-type Ends = (u16, u16);
-
-fn end_of(number: u16) -> CableEnd {
-    if number < 100 {
-        CableEnd::Host(number)
-    } else {
-        CableEnd::Switch(number - 100)
-    }
-}
-
-fn plan_of(alloc: Global, hosts: u16, levels: &[u8], cables: &[Ends]) -> Result<Plan, NoMemory> {
-    let levels = List::from_vec(Vec::from_slice(alloc, levels)?);
-    let mut joined = List::new(alloc);
-    for (one, other) in cables {
-        joined.push((end_of(*one), end_of(*other)))?;
-    }
-    Ok(Plan {
-        hosts,
-        levels,
-        cables: joined,
-        patience: Ts(100),
-    })
-}
-
-fn build(rt: &impl Abort, alloc: Global, plan: &Plan) -> Result<Topology, TopoFault> {
-    assert!(rt; plan.has_ends() && plan.levels.len() < 1000 && plan.cables.len() < 1000);
-    Topology::build(alloc, plan)
-}
-
-// The first fault is shown so, or there is none and the text is `none`.
-fn is_fault(rt: &impl Abort, alloc: Global, plan: &Plan, text: &str) -> Result<bool, AllocError> {
-    match build(rt, alloc, plan).err() {
-        None => Ok(text == "none"),
-        Some(fault) => Ok(format!(in alloc; "{fault:?}")?.as_str() == text),
-    }
-}
-
-static PLANS: [(u16, &[u8], &[Ends], &str); 11] = [
-    (1, &[1], &[(0, 100)], "none"),
-    (0, &[], &[], "NoHost"),
-    (2, &[], &[(0, 1)], "Level { cable: 0 }"),
-    (
-        1,
-        &[1, 1],
-        &[(0, 100), (0, 100), (101, 100)],
-        "Level { cable: 2 }",
-    ),
-    (1, &[1], &[(0, 100), (100, 0)], "DoubleCable { cable: 1 }"),
-    (1, &[1], &[(0, 100), (0, 100)], "DoubleCable { cable: 1 }"),
-    (1, &[1, 2], &[(0, 100)], "Idle { switch: 1 }"),
-    (1, &[2, 1], &[(0, 100), (100, 101)], "Idle { switch: 1 }"),
-    (1, &[], &[], "Apart { a: 0, b: 0 }"),
-    (2, &[1, 1], &[(0, 100), (1, 101)], "Apart { a: 0, b: 1 }"),
-    (
-        3,
-        &[1, 1],
-        &[(2, 101), (0, 100), (100, 1)],
-        "Apart { a: 0, b: 2 }",
-    ),
-];
-
-fn has_plan_fault(
-    rt: &impl Abort,
-    alloc: Global,
-    hosts: u16,
-    levels: &[u8],
-    cables: &[Ends],
-    text: &str,
-) -> Result<bool, NoMemory> {
-    let plan = plan_of(alloc, hosts, levels, cables)?.try_clone()?;
-    Ok(is_fault(rt, alloc, &plan, text)?)
-}
-
-#[test]
-fn the_first_fault_is_told(rt: HostRuntime) -> Result<(), NoMemory> {
-    for (hosts, levels, cables, text) in &PLANS {
-        assert!(rt; has_plan_fault(&rt, rt.alloc(), *hosts, levels, cables, text)?);
-    }
-    Ok(())
-}
-
-// With so many switches of level 1, and one cable 513 times.
-fn has_crowd_fault(
-    rt: &impl Abort,
-    alloc: Global,
-    hosts: u16,
-    switches: usize,
-    text: &str,
-) -> Result<bool, NoMemory> {
-    let levels = vec![in alloc; 1; switches]?;
-    let cables = vec![in alloc; (0, 100); 513]?;
-    has_plan_fault(rt, alloc, hosts, &levels, &cables, text)
-}
-
-static CROWDS: [(u16, usize, &str); 3] = [
-    (65, 65, "TooMany { what: Hosts, count: 65 }"),
-    (1, 65, "TooMany { what: Switches, count: 65 }"),
-    (1, 1, "TooMany { what: Cables, count: 513 }"),
-];
-
-#[test]
-fn too_many_are_told(rt: HostRuntime) -> Result<(), NoMemory> {
-    for (hosts, switches, text) in &CROWDS {
-        assert!(rt; has_crowd_fault(&rt, rt.alloc(), *hosts, *switches, text)?);
-    }
-    Ok(())
-}
-
-// 31 low switches, 32 in the middle and one on top.
-fn largest_levels(alloc: Global) -> Result<Vec<u8>, NoMemory> {
-    let mut levels = vec![in alloc; 1; 31]?;
-    for _ in 31..63 {
-        levels.push(2)?;
-    }
-    levels.push(3)?;
-    Ok(levels)
-}
-
-// Each host below a low switch, each low switch below 13 or 14 middle ones, and these below the top.
-fn largest_cables(alloc: Global) -> Result<Vec<Ends>, NoMemory> {
-    let mut cables = vec![in alloc]?;
-    for host in 0..64 {
-        cables.push((host, 100 + host % 31))?;
-    }
-    for middle in 131..163 {
-        cables.push((163, middle))?;
-    }
-    for way in 0..416 {
-        cables.push((100 + way % 31, 131 + (way % 31 + way / 31) % 32))?;
-    }
-    Ok(cables)
-}
-
-fn largest(alloc: Global) -> Result<Plan, NoMemory> {
-    let levels = largest_levels(alloc)?;
-    let cables = largest_cables(alloc)?;
-    plan_of(alloc, 64, &levels, &cables)
-}
-
-// Hosts, switches, nodes and links.
-type Sizes = (u16, u16, u16, u16);
-
-fn has_sizes(topology: &Topology, sizes: Sizes) -> bool {
-    topology.hosts() == sizes.0
-        && topology.switches() == sizes.1
-        && topology.nodes() == sizes.2
-        && topology.links() == sizes.3
-}
-
-fn is_built(rt: &impl Abort, alloc: Global, plan: &Plan, sizes: Sizes) -> bool {
-    match build(rt, alloc, plan) {
-        Ok(topology) => has_sizes(&topology, sizes),
-        Err(_) => false,
-    }
-}
-
-#[test]
-fn the_largest_networks_are_built(rt: HostRuntime) -> Result<(), NoMemory> {
-    assert!(rt; is_built(&rt, rt.alloc(), &largest(rt.alloc())?, (64, 64, 192, 1088)));
-    assert!(rt;
-        is_built(
-            &rt,
-            rt.alloc(),
-            &Plan::star(rt.alloc(), 64, Ts(1))?,
-            (64, 1, 66, 129)
-        )
-    );
-    Ok(())
-}
-
-// Two hosts under two switches, which two higher switches join.
-static TWO_WAYS: [Ends; 6] = [
-    (0, 100),
-    (1, 101),
-    (100, 102),
-    (100, 103),
-    (101, 102),
-    (101, 103),
-];
-
-fn two_ways(rt: &impl Abort, alloc: Global) -> Result<Topology, TopoFault> {
-    let plan = plan_of(alloc, 2, &[1, 1, 2, 2], &TWO_WAYS)?;
-    Ok(build(rt, alloc, &plan)?.try_clone()?)
-}
 
 // The tail and the head of each link.
 static ENDS: [(u16, u16); 16] = [
@@ -224,14 +38,6 @@ fn have_ends(rt: &impl Abort, topology: &Topology) {
     }
 }
 
-#[test]
-fn links_are_numbered_by_cable_and_switch(rt: HostRuntime) -> Result<(), TopoFault> {
-    let topology = two_ways(&rt, rt.alloc())?;
-    have_ends(&rt, &topology);
-    assert!(rt; has_sizes(&topology, (2, 4, 10, 16)) && topology.patience() == Ts(100));
-    Ok(())
-}
-
 // The links into each node and out of it.
 static LINKS: [(&[u16], &[u16]); 10] = [
     (&[1], &[0]),
@@ -260,13 +66,6 @@ fn have_links(rt: &impl Abort, topology: &Topology) {
     for (node, (ins, outs)) in LINKS.iter().enumerate() {
         assert!(rt; has_links(topology, node as u16, ins, outs));
     }
-}
-
-#[test]
-fn nodes_list_their_links(rt: HostRuntime) -> Result<(), TopoFault> {
-    let topology = two_ways(&rt, rt.alloc())?;
-    have_links(&rt, &topology);
-    Ok(())
 }
 
 // By all links but one the first host reaches the second, and feeds the loop of the third switch.
@@ -298,9 +97,23 @@ fn have_ways(rt: &impl Abort, alloc: Global, topology: &Topology) -> Result<(), 
     Ok(())
 }
 
+// Its hosts, switches, nodes and links, and its patience.
+fn sizes(topology: &Topology) -> [u64; 5] {
+    [
+        u64::from(topology.hosts()),
+        u64::from(topology.switches()),
+        u64::from(topology.nodes()),
+        u64::from(topology.links()),
+        topology.patience().0,
+    ]
+}
+
 #[test]
-fn hosts_reach_by_links_that_are_left(rt: HostRuntime) -> Result<(), TopoFault> {
-    let topology = two_ways(&rt, rt.alloc())?;
+fn a_network_has_its_links_and_ways(rt: HostRuntime) -> Result<(), TopoFault> {
+    let topology = build(&rt, rt.alloc(), &TWO_WAYS)?.try_clone()?;
+    assert!(rt; sizes(&topology) == [2, 4, 10, 16, 100]);
+    have_ends(&rt, &topology);
+    have_links(&rt, &topology);
     have_ways(&rt, rt.alloc(), &topology)?;
     Ok(())
 }
