@@ -1,5 +1,7 @@
+pub mod Downs
 pub mod Entries
 pub mod Links
+pub mod Marks
 pub mod Own
 pub mod Promises
 pub mod Rising

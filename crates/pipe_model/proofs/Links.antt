@@ -28,6 +28,15 @@ outs_go_out graph node =
     All-weaker (λ (l : LinkId). (tail_of graph l.0 == node) ≡ true) (GoesOut graph node) (λ l is. eqb-true (tail_of graph l.0) node is) (outs_of graph node)
     (filter_passes (λ (l : LinkId). tail_of graph l.0 == node) (all_links graph))
 
+-- the link ends at the node
+abbrev pub ComesIn : Graph → ℕ → LinkId → Type 0
+ComesIn graph node l = head_of graph l.0 ≡ node
+
+pub ins_come_in : (graph : Graph) (node : ℕ) → All (ComesIn graph node) (ins_of graph node)
+ins_come_in graph node =
+    All-weaker (λ (l : LinkId). (head_of graph l.0 == node) ≡ true) (ComesIn graph node) (λ l is. eqb-true (head_of graph l.0) node is) (ins_of graph node)
+    (filter_passes (λ (l : LinkId). head_of graph l.0 == node) (all_links graph))
+
 -- what holds of all holds of the one at a place
 link_at : (P : LinkId → Type 0) (ls : List LinkId) (place : ℕ) (l : LinkId) → All P ls → slice_get ls place ≡ Some l → P l
 link_at P [] place l all is = cc

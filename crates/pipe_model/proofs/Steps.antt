@@ -17,7 +17,7 @@ use Rattle.pipe_model.specs.declared.record.Took.TheVariants.{Link}
 use Rattle.pipe_model.specs.Fate.{fate, held}
 use Rattle.pipe_model.specs.Got.{gets_of, got, message_of}
 use Rattle.pipe_model.specs.Logged.{logged}
-use Rattle.pipe_model.specs.Marks.{downed_at}
+use Rattle.pipe_model.specs.Marks.{downed, downed_by}
 use Rattle.pipe_model.specs.Moments.{known_drops, moments_of, received, received_of, tick_of}
 use Rattle.pipe_model.specs.Run.{IsNodeStep}
 
@@ -79,11 +79,20 @@ no_tick_by past _ took q is = cc
 pub receipt_no_tick : (own : List Record) (r : Record) (q : ℕ × Packet) → received own r ≡ Some q → tick_of r.event ≡ None
 receipt_no_tick own r q is = no_tick_by (moments_of own) r.event r.took q is
 
--- the moments of a record that is no tick
-pub moments_received : (graph : Graph) (node : ℕ) (own : List Record) (r : Record) (q : Option (ℕ × Packet)) → IsNodeStep graph node own r → tick_of r.event ≡ None
-    → received own r ≡ q → moments_of (r ∷ own) ≡ with_received true q (moments_of own)
-moments_received graph node own r q step no_tick is =
-    let down : r.step.downed ≡ [] = step.downed_is ∙ ap (downed_at graph node own) no_tick in
+marks_nothing_by : (graph : Graph) (node : ℕ) (own : List Record) (event : Event) (took : Took) (q : ℕ × Packet) → received_of (moments_of own) event took ≡ Some q
+    → downed_by graph node own event took ≡ []
+marks_nothing_by graph node own (Take link place keep) took q is = refl
+marks_nothing_by graph node own _ took q is = cc
+
+-- a record that receives takes no link down
+pub receipt_marks_nothing : (graph : Graph) (node : ℕ) (own : List Record) (r : Record) (q : ℕ × Packet) → received own r ≡ Some q → downed graph node own r ≡ []
+receipt_marks_nothing graph node own r q is = marks_nothing_by graph node own r.event r.took q is
+
+-- the moments of a record that receives
+pub moments_received : (graph : Graph) (node : ℕ) (own : List Record) (r : Record) (q : ℕ × Packet) → IsNodeStep graph node own r
+    → received own r ≡ Some q → moments_of (r ∷ own) ≡ with_received true (Some q) (moments_of own)
+moments_received graph node own r q step is =
+    let down : r.step.downed ≡ [] = step.downed_is ∙ receipt_marks_nothing graph node own r q is in
     let drop : r.step.dropped ≡ [] = step.dropped_is in
     rw (drop, down, is) refl
 

@@ -1,16 +1,18 @@
--- Which packets a node owes in a record, and the two barriers that they carry.
-use Rattle.std.specs.Prelude.{ℕ, ◌&&◌, if◌then◌else◌, List, [], ◌∷◌, ◌++◌, Option, None, Some, map, filter}
+-- Which packets a node owes in a record, with the two barriers that they carry, and which control messages.
+use Rattle.std.specs.Prelude.{ℕ, ◌&&◌, if◌then◌else◌, List, [], ◌∷◌, ◌++◌, Option, None, Some, map, filter, flat_map}
 use Rattle.pipe_base.specs.declared.message.Service.{Service}
 use Rattle.pipe_base.specs.declared.message.Service.TheVariants.{Reliable}
 use Rattle.pipe_base.specs.declared.name.HostId.{HostId}
 use Rattle.pipe_base.specs.declared.name.LinkId.{LinkId}
 use Rattle.pipe_base.specs.declared.name.Ts.{Ts}
 use Rattle.pipe_base.specs.declared.control.Addressed.{Addressed}
+use Rattle.pipe_base.specs.declared.control.Control.TheVariants.{Down}
+use Rattle.pipe_base.specs.declared.control.To.TheVariants.{Controller}
 use Rattle.pipe_base.specs.declared.packet.Packet.{Packet}
 use Rattle.pipe_base.specs.declared.packet.Plane.TheVariants as plane
 use Rattle.pipe_base.specs.declared.step.Fate.{Fate}
 use Rattle.pipe_base.specs.Fate.{is_holding}
-use Rattle.pipe_base.specs.Graph.{Graph, is_host, outs_of}
+use Rattle.pipe_base.specs.Graph.{Graph, ins_of, is_host, outs_of}
 use Rattle.pipe_base.specs.Packets.{Fields, ack_to, beacon, forwarded, sent_to}
 use Rattle.pipe_base.specs.Resends.{resends}
 use Rattle.pipe_base.specs.Scattering.{SenderCall}
@@ -21,6 +23,7 @@ use Rattle.pipe_model.specs.declared.event.Event.TheVariants.{Send, Tick, Take}
 use Rattle.pipe_model.specs.declared.record.Record.{Record}
 use Rattle.pipe_model.specs.Clock.{next, promise}
 use Rattle.pipe_model.specs.Got.{carries, gets, is_beacon}
+use Rattle.pipe_model.specs.Marks.{mark}
 use Rattle.pipe_model.specs.Moments.{received, barrier_at, known_drops}
 use Rattle.pipe_model.specs.Sender.{sender_calls}
 
@@ -87,6 +90,20 @@ put graph node own r = routed (route graph (known_drops (r ∷ own)) node) (owed
 abbrev pub unrouted : Graph → ℕ → List Record → Record → ℕ
 unrouted graph node own r = lost (route graph (known_drops (r ∷ own)) node) (owed graph node own r)
 
--- the control messages that the record puts: none are built yet
+-- what the controller is told of a link with this mark
+abbrev pub down_told : LinkId → Option Ts → List Addressed
+down_told l None = []
+down_told l (Some value) = record { to = Controller; control = Down l value } ∷ []
+
+-- the marks of the in-links that the node does not know as dropped, told to the controller in rising number
+abbrev pub downs_told : Graph → ℕ → List Record → List Addressed
+downs_told graph node own = flat_map (λ l. down_told l (mark own l.0)) (filter (λ l. not_dropped (known_drops own) l.0) (ins_of graph node))
+
+-- the control messages that a node owes after a record, by the event: each tick tells the marks again
+abbrev pub control_of : Graph → ℕ → List Record → Event → List Addressed
+control_of graph node own (Tick n now) = downs_told graph node own
+control_of graph node own _ = []
+
+-- the control messages that the record puts
 abbrev pub control : Graph → ℕ → List Record → Record → List Addressed
-control graph node own r = []
+control graph node own r = control_of graph node (r ∷ own) r.event

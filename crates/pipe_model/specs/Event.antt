@@ -4,7 +4,7 @@ use Rattle.pipe_base.specs.declared.name.HostId.{HostId}
 use Rattle.pipe_base.specs.Graph.{Graph}
 use Rattle.pipe_base.specs.Limits.{last_stamp, most_receivers}
 use Rattle.pipe_model.specs.declared.event.Event.{Event}
-use Rattle.pipe_model.specs.declared.event.Event.TheVariants.{Send, Tick, Take, Lose, ControlTake, ControlLose, Decide, Crash, Cut}
+use Rattle.pipe_model.specs.declared.event.Event.TheVariants.{Send, Tick, Take, Lose, Decide, Crash, Cut}
 
 -- one to sixteen receivers, all different and all hosts
 pub record AreReceivers (graph : Graph) (dests : List (HostId × List ℕ)) : Type 0 where
@@ -29,14 +29,7 @@ IsOfGraph graph (Crash node) = node.0 < graph.nodes
 IsOfGraph graph (Cut link) = link.0 < length graph.links
 IsOfGraph graph _ = Unit {0}
 
--- what is built so far: sends of both services, ticks, takes and losses of packets
+-- what is built so far: all but the decisions of the controller
 abbrev pub IsBuilt : Event → Type 0
-IsBuilt (Send host service now dests) = Unit {0}
-IsBuilt (Tick node now) = Unit {0}
-IsBuilt (Take link place keep) = Unit {0}
-IsBuilt (Lose link place) = Unit {0}
-IsBuilt (ControlTake place keep) = ⊥
-IsBuilt (ControlLose place) = ⊥
 IsBuilt Decide = ⊥
-IsBuilt (Crash node) = ⊥
-IsBuilt (Cut link) = ⊥
+IsBuilt _ = Unit {0}

@@ -4,6 +4,7 @@ pub mod AllOrNone
 pub mod Clock
 pub mod Controller
 pub mod Correct
+pub mod DownsTold
 pub mod Duties
 pub mod Event
 pub mod Fate

@@ -1,4 +1,4 @@
--- What waits on a link, the oldest packet first.
+-- What waits on a link, and which control messages wait, the oldest first.
 use Rattle.std.specs.Prelude.{ℕ, ◌==◌, ◌&&◌, not, if◌then◌else◌, Bool, true, false, List, [], ◌∷◌, ◌++◌, remove}
 use Rattle.std.specs.List.{list_any}
 use Rattle.pipe_base.specs.declared.control.Addressed.{Addressed}
@@ -7,7 +7,7 @@ use Rattle.pipe_base.specs.declared.packet.Packet.{Packet}
 use Rattle.pipe_base.specs.declared.step.Outcome.{Outcome}
 use Rattle.pipe_base.specs.declared.step.Outcome.TheVariants.{Ok}
 use Rattle.pipe_model.specs.declared.event.Event.{Event}
-use Rattle.pipe_model.specs.declared.event.Event.TheVariants.{Take, Lose, Cut}
+use Rattle.pipe_model.specs.declared.event.Event.TheVariants.{Take, Lose, ControlTake, ControlLose, Cut}
 use Rattle.pipe_model.specs.declared.record.Record.{Record}
 use Rattle.pipe_model.specs.Acting.{is_idle}
 
@@ -15,9 +15,13 @@ abbrev pub is_ok : Outcome → Bool
 is_ok Ok = true
 is_ok _ = false
 
+-- a take takes its item out, unless a copy stays or nothing happened
+abbrev pub takes_out : Bool → Outcome → Bool
+takes_out keep outcome = not keep && not (is_idle outcome)
+
 -- what an event leaves of the packets that waited on a link
 abbrev pub left_after : ℕ → Event → Outcome → List Packet → List Packet
-left_after link (Take l place keep) outcome waiting = if (l.0 == link) && (not keep && not (is_idle outcome)) then remove waiting place else waiting
+left_after link (Take l place keep) outcome waiting = if (l.0 == link) && takes_out keep outcome then remove waiting place else waiting
 left_after link (Lose l place) outcome waiting = if (l.0 == link) && is_ok outcome then remove waiting place else waiting
 left_after link _ outcome waiting = waiting
 
@@ -40,6 +44,13 @@ waiting_on link [] = []
 waiting_on link (r ∷ past) =
     if is_cut link (r ∷ past) then [] else left_after link r.event r.step.outcome (waiting_on link past) ++ put_on link r.step.put
 
--- The control messages that wait, the oldest first. None are built yet.
+-- what an event leaves of the control messages that waited
+abbrev pub control_left : Event → Outcome → List Addressed → List Addressed
+control_left (ControlTake place keep) outcome waiting = if takes_out keep outcome then remove waiting place else waiting
+control_left (ControlLose place) outcome waiting = if is_ok outcome then remove waiting place else waiting
+control_left _ outcome waiting = waiting
+
+-- The control messages that wait: what was put, in order, without what was taken or lost. No cut touches them.
 abbrev pub waiting_control : List Record → List Addressed
-waiting_control past = []
+waiting_control [] = []
+waiting_control (r ∷ past) = control_left r.event r.step.outcome (waiting_control past) ++ r.step.control

@@ -16,7 +16,7 @@ use Rattle.pipe_model.specs.declared.event.Event.{Event}
 use Rattle.pipe_model.specs.declared.record.Record.{Record}
 use Rattle.pipe_model.specs.declared.record.Took.{Took}
 use Rattle.pipe_model.specs.Acting.{is_own, own}
-use Rattle.pipe_model.specs.Duties.{put, unrouted}
+use Rattle.pipe_model.specs.Duties.{control, put, unrouted}
 use Rattle.pipe_model.specs.Logged.{logged}
 use Rattle.pipe_model.specs.Outcome.{took_of}
 use Rattle.pipe_model.specs.Run.{IsHistory, IsStep, IsNodeStep, event_of}
@@ -26,6 +26,12 @@ abbrev of : Event → Took → Step → Record
 of e t s = record { event = e; took = t; step = s }
 
 -- what a node owes is a function of the event, what was taken, the stamp, the fate, the marks and what was logged
+control_same : (graph : Graph) (n : ℕ) (o : List Record) (e : Event) (t : Took) (a b : Step) → a.downed ≡ b.downed → a.dropped ≡ b.dropped
+    → control graph n o (of e t a) ≡ control graph n o (of e t b)
+control_same graph n o e t a b down drop =
+    let f : List (LinkId × Ts) → List LinkId → List Addressed = λ d l. control graph n o (of e t (record a { downed = d; dropped = l })) in
+    ap (λ (d : List (LinkId × Ts)). f d a.dropped) down ∙ ap (λ (l : List LinkId). f b.downed l) drop
+
 logged_same : (graph : Graph) (n : ℕ) (o : List Record) (e : Event) (t : Took) (a b : Step) → a.downed ≡ b.downed → a.dropped ≡ b.dropped
     → logged graph n o (of e t a) ≡ logged graph n o (of e t b)
 logged_same graph n o e t a b down drop =
@@ -75,7 +81,7 @@ node_step_same graph n o e t a b sa sb out =
     let stamp : a.stamped ≡ b.stamped = sa.stamped_is ∙ sym sb.stamped_is in
     let fate : a.fate ≡ b.fate = sa.fate_is ∙ sym sb.fate_is in
     let log : a.logged ≡ b.logged = sa.logged_is ∙ logged_same graph n o e t a b down drop ∙ sym sb.logged_is in
-    parts_same a b (sa.put_is ∙ put_same graph n o e t a b down drop stamp fate log ∙ sym sb.put_is) (sa.control_is ∙ sym sb.control_is) down drop stamp fate log (sa.noted_is ∙ sym sb.noted_is)
+    parts_same a b (sa.put_is ∙ put_same graph n o e t a b down drop stamp fate log ∙ sym sb.put_is) (sa.control_is ∙ control_same graph n o e t a b down drop ∙ sym sb.control_is) down drop stamp fate log (sa.noted_is ∙ sym sb.noted_is)
     (sa.unrouted_is ∙ unrouted_same graph n o e t a b down drop stamp fate log ∙ sym sb.unrouted_is) out
 
 step_same : (graph : Graph) (past : List Record) (e : Event) (t : Took) (a b : Step) → IsStep graph past (of e t a) → IsStep graph past (of e t b) → a ≡ b

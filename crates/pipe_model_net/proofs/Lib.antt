@@ -1,7 +1,9 @@
 pub mod Acks
 pub mod Acting
 pub mod Begun
+pub mod ControlMessages
 pub mod Determined
+pub mod Downs
 pub mod Events
 pub mod Genuine
 pub mod NeverLate

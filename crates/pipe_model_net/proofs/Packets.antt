@@ -21,12 +21,12 @@ use Rattle.pipe_model.specs.Waiting.{is_cut, is_ok, left_after, put_on, waiting_
 use Rattle.pipe_model.proofs.Own.{own_more, own_same}
 use Rattle.pipe_model_net.proofs.Receipts.{receives}
 
-removed : (P : Packet → Type 0) (ps : List Packet) (place : ℕ) → All P ps → All P (remove ps place)
-removed P ps place all = All-append P (take place ps) (drop (suc place) ps) (All-take P place ps all) (All-drop P (suc place) ps all)
+pub removed : {A : Type 0} (P : A → Type 0) (xs : List A) (place : ℕ) → All P xs → All P (remove xs place)
+removed P xs place all = All-append P (take place xs) (drop (suc place) xs) (All-take P place xs all) (All-drop P (suc place) xs all)
 
-chosen : (b : Bool) (P : Packet → Type 0) (ps qs : List Packet) → All P ps → All P qs → All P (if b then ps else qs)
-chosen true P ps qs all other = all
-chosen false P ps qs all other = other
+pub chosen : {A : Type 0} (b : Bool) (P : A → Type 0) (xs ys : List A) → All P xs → All P ys → All P (if b then xs else ys)
+chosen true P xs ys all other = all
+chosen false P xs ys all other = other
 
 -- an event only takes from what waits
 pub left_all : (P : Packet → Type 0) (link : ℕ) (event : Event) (outcome : Outcome) (ps : List Packet) → All P ps → All P (left_after link event outcome ps)
@@ -74,10 +74,10 @@ pub took_waited : (graph : Graph) (past : List Record) (r : Record) (l : LinkId)
 took_waited graph past r l p step took = took_by (is_idle (outcome_of graph past r.event)) past r r.event l p (sym step.took_is ∙ took)
 
 -- at a place where something waits, what holds of all holds of it
-pub at_place : (P : Packet → Type 0) (ps : List Packet) (place : ℕ) (p : Packet) → All P ps → slice_get ps place ≡ Some p → P p
-at_place P [] place p all is = cc
-at_place P (q ∷ qs) zero p all is = let same : q ≡ p = cc in subst P same (All-head P q qs all)
-at_place P (q ∷ qs) (suc place) p all is = at_place P qs place p (All-tail P q qs all) is
+pub at_place : {A : Type 0} (P : A → Type 0) (xs : List A) (place : ℕ) (x : A) → All P xs → slice_get xs place ≡ Some x → P x
+at_place P [] place x all is = cc
+at_place P (y ∷ ys) zero x all is = let same : y ≡ x = cc in subst P same (All-head P y ys all)
+at_place P (y ∷ ys) (suc place) x all is = at_place P ys place x (All-tail P y ys all) is
 
 -- what is asked of a property: it stays, and holds of what a record puts where it held of what the record took
 pub record IsKept (graph : Graph) (Q : List Record → Packet → Type 0) : Type 0 where

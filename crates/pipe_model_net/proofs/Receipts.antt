@@ -1,13 +1,12 @@
 -- What a record receives waited on its link, and what it does to the greatest field received on a link.
-use Rattle.std.proofs.Common.{◌≡◌, ℕ, ◌≤◌, max, ◌==◌, ◌&&◌, if◌then◌else◌, Bool, true, false, List, [], ◌∷◌, Option, None, Some, refl, sym, subst, ap, ◌∙◌, arith, eqb-true}
+use Rattle.std.proofs.Common.{◌≡◌, ℕ, ◌≤◌, max, ◌==◌, ◌&&◌, if◌then◌else◌, Bool, true, false, List, ◌∷◌, Option, None, Some, refl, sym, subst, ap, ◌∙◌, arith, eqb-true}
 use Rattle.std.specs.List.{slice_get}
 use Rattle.pipe_base.specs.declared.name.LinkId.{LinkId}
-use Rattle.pipe_base.specs.declared.name.Ts.{Ts}
 use Rattle.pipe_base.specs.declared.packet.Packet.{Packet}
 use Rattle.pipe_base.specs.declared.packet.Plane.{Plane}
 use Rattle.pipe_base.specs.Barrier.{register}
 use Rattle.pipe_base.specs.Graph.{Graph, head_of}
-use Rattle.pipe_base.specs.Moment.{Moment, WentDown, Dropped, is_up, keeps_links, with_received, with_downed, with_dropped}
+use Rattle.pipe_base.specs.Moment.{Moment, is_up, keeps_links, with_received, with_downed}
 use Rattle.pipe_model.specs.declared.event.Event.{Event}
 use Rattle.pipe_model.specs.declared.event.Event.TheVariants.{Take}
 use Rattle.pipe_model.specs.declared.record.Record.{Record}
@@ -19,6 +18,7 @@ use Rattle.pipe_model.specs.OnLink.{field, greatest_received}
 use Rattle.pipe_model.specs.Outcome.{outcome_of, took_at, took_of}
 use Rattle.pipe_model.specs.Run.{IsStep}
 use Rattle.pipe_model.specs.Waiting.{waiting_on}
+use Rattle.pipe_model.proofs.Marks.{register_downed, register_dropped}
 use Rattle.pipe_model.proofs.Own.{own_more, own_same}
 
 -- ---- the packet received
@@ -71,14 +71,6 @@ pub receives : (graph : Graph) (past own : List Record) (r : Record) (q : ℕ ×
 receives graph past own r q step is = by_event graph past (moments_of own) r.event r.took q step.took_is is
 
 -- ---- the greatest field received
-
-register_downed : (plane : Plane) (ds : List (LinkId × Ts)) (past : List Moment) (link : ℕ) → register plane (with_downed ds past) link ≡ register plane past link
-register_downed plane [] past link = refl
-register_downed plane (d ∷ ds) past link = register_downed plane ds (WentDown d.0.0 ∷ past) link
-
-register_dropped : (plane : Plane) (ls : List LinkId) (past : List Moment) (link : ℕ) → register plane (with_dropped ls past) link ≡ register plane past link
-register_dropped plane [] past link = refl
-register_dropped plane (l ∷ ls) past link = register_dropped plane ls (Dropped l.0 ∷ past) link
 
 -- a packet received on the link has at most this field
 abbrev pub ReceivedBelow : Plane → ℕ → ℕ → Option (ℕ × Packet) → Type 0

@@ -27,7 +27,7 @@ use Rattle.pipe_model.specs.OnLink.{greatest_received}
 use Rattle.pipe_model.specs.Run.{IsStep}
 use Rattle.pipe_model.specs.Waiting.{waiting_on}
 use Rattle.pipe_model.proofs.Own.{own_more}
-use Rattle.pipe_model.proofs.Steps.{moments_received, receipt_no_tick}
+use Rattle.pipe_model.proofs.Steps.{moments_received}
 use Rattle.pipe_model_net.proofs.Acting.{nobodys_or_own, quiet_puts}
 use Rattle.pipe_model_net.proofs.Ordered.{AreSettled, IsOrderedStep, IsReceipt, at_head, receipt, received_settled}
 use Rattle.pipe_model_net.proofs.Owed.{puts_each}
@@ -58,7 +58,7 @@ barrier_after : (graph : Graph) (past : List Record) (r : Record) (node : ℕ) (
     → barrier_at plane.BestEffort graph node (r ∷ own graph node past) ≤ greatest_received plane.BestEffort graph q.0 (r ∷ past)
 barrier_after graph past r node q step mine is at =
     let o : List Record = own graph node past in
-    let moments = moments_received graph node o r (Some q) (step.node node mine) (receipt_no_tick o r q is) is in
+    let moments = moments_received graph node o r q (step.node node mine) is in
     let up : is_up (moments_of (r ∷ o)) q.0 ≡ true = subst (λ (ms : List Moment). is_up ms q.0 ≡ true) (sym moments) at.up in
     let same : register plane.BestEffort (moments_of (r ∷ o)) q.0 ≡ greatest_received plane.BestEffort graph q.0 (r ∷ past) =
     ap (λ (x : List Record). register plane.BestEffort (moments_of x) q.0) (sym (own_more graph node r past mine)) ∙ at_head graph (r ∷ past) node q.0 at.head in

@@ -1,5 +1,6 @@
 //! Laws of every run, between the nodes: what is logged and what travels was sent, what an acknowledgement tells, the events
-//! determine all that happens, what bounds the barriers on a link, and that best effort is never late where links keep order.
+//! determine all that happens, what bounds the barriers on a link, what the controller is told of links that are down, and that
+//! best effort is never late where links keep order.
 #![tactic(auto)]
 
 ghost use Rattle.std.specs.Prelude.{◌≡◌, ℕ, All, List, map, reverse};
@@ -9,6 +10,7 @@ ghost use Rattle.pipe_model.specs.declared.event.Event.{Event};
 ghost use Rattle.pipe_model.specs.declared.record.Record.{Record};
 ghost use Rattle.pipe_model.specs.Acknowledged.{AreAcksTrue};
 ghost use Rattle.pipe_model.specs.Acting.{own};
+ghost use Rattle.pipe_model.specs.DownsTold.{AreDownsTrue};
 ghost use Rattle.pipe_model.specs.Event.{IsOfGraph};
 ghost use Rattle.pipe_model.specs.MessagesSent.{AreMessagesSent};
 ghost use Rattle.pipe_model.specs.NeverLate.{AreLinksOrdered, AreOfGraph, IsNeverLate, IsOfOldest};
@@ -60,8 +62,14 @@ pub fn fields_are_promised()
     ensures { (plane : Plane) (graph : Graph) (past : List Record) → IsHistory graph past → (link : ℕ) → AreFieldsPromised plane graph link past }
 {}
 
+/// In every run, each report of a link that is down which waits among the control messages was put by the head of the link, and
+/// tells the link's mark.
+pub fn downs_tell_marks()
+    ensures { (graph : Graph) (past : List Record) → IsHistory graph past → AreDownsTrue graph past }
+{}
+
 /// In every run of events of the network in which each take names the oldest packet of its link, no best-effort message is
-/// late. Packets may be lost anywhere, copies may stay, and silent links may go down.
+/// late. Packets may be lost anywhere, copies may stay, links may go down or be cut, and nodes may crash.
 pub fn ordered_links_are_never_late()
     ensures { (graph : Graph) (past : List Record) → IsHistory graph past → AreOfGraph graph past → AreLinksOrdered past → IsNeverLate past }
 {}

@@ -1,3 +1,4 @@
 pub mod Causal
+pub mod MarkedOnce
 pub mod Ordered
 pub mod Passed

@@ -1,11 +1,13 @@
 //! Laws of one node, whatever packets it is handed: its logs rise, it stamps above all that it logged, each link in use
-//! bounds its barrier, and its promise never falls. In a run each node's own records are such records, so the laws hold of every run.
+//! bounds its barrier, the mark of a link that went down is its commit register from then on, and its promise never falls. In a run
+//! each node's own records are such records, so the laws hold of every run.
 #![tactic(auto)]
 
-ghost use Rattle.std.specs.Prelude.{◌≡◌, ◌<◌, ◌≤◌, ◌∷◌, ℕ, All, List, false, length, true};
+ghost use Rattle.std.specs.Prelude.{◌≡◌, ◌≢◌, ◌<◌, ◌≤◌, ◌∷◌, ℕ, All, AllPairs, List, Some, false, length, true};
 ghost use Rattle.pipe_base.specs.declared.message.Key.{Key};
 ghost use Rattle.pipe_base.specs.declared.message.Service.{Service};
 ghost use Rattle.pipe_base.specs.declared.message.Service.TheVariants.{Reliable};
+ghost use Rattle.pipe_base.specs.declared.name.Ts.{Ts};
 ghost use Rattle.pipe_base.specs.declared.packet.Plane.{Plane};
 ghost use Rattle.pipe_base.specs.declared.packet.Plane.TheVariants.{Commit};
 ghost use Rattle.pipe_base.specs.Barrier.{register};
@@ -21,6 +23,7 @@ ghost use Rattle.pipe_model.specs.Clock.{next, promise};
 ghost use Rattle.pipe_model.specs.Fate.{held};
 ghost use Rattle.pipe_model.specs.LateMessage.{got_recall, is_void};
 ghost use Rattle.pipe_model.specs.Logged.{log};
+ghost use Rattle.pipe_model.specs.Marks.{mark, marks};
 ghost use Rattle.pipe_model.specs.Moments.{barrier_at, moments_of, noted_hosts};
 ghost use Rattle.pipe_model.specs.Order.{IsRising, IsCausal, AreLogsOrdered, AreStampsCausal};
 ghost use Rattle.pipe_model.specs.Run.{IsHistory, IsNodeHistory};
@@ -50,6 +53,15 @@ pub fn stamps_of_a_run_are_causal()
 pub fn use_bounds_barrier()
     ensures { (plane : Plane) (graph : Graph) (node : ℕ) (own : List Record) (link : ℕ) → has_link link (ins_of graph node) ≡ true
         → is_used plane (moments_of own) link ≡ true → barrier_at plane graph node own ≤ register plane (moments_of own) link }
+{}
+
+/// Whatever one node is handed, where a link is marked with a value its commit register is that value, now and, as marks stay,
+/// later; and no link is marked twice.
+pub fn marks_are_frozen()
+    ensures frozen { (graph : Graph) (node : ℕ) (own : List Record) (link : ℕ) (value : Ts) → IsNodeHistory graph node own
+        → mark own link ≡ Some value → register Commit (moments_of own) link ≡ value.0 }
+    ensures stay { (own : List Record) (r : Record) (link : ℕ) (value : Ts) → mark own link ≡ Some value → mark (r ∷ own) link ≡ Some value }
+    ensures once { (graph : Graph) (node : ℕ) (own : List Record) → IsNodeHistory graph node own → AllPairs (λ a b. a.0.0 ≢ b.0.0) (marks own) }
 {}
 
 /// The promise never falls, whatever one node is handed. It is at most the next timestamp, and no scattering below it is
