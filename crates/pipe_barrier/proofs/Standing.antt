@@ -1,6 +1,10 @@
 -- What is kept stands for one moment more, and what a search among the registers finds.
-use Rattle.std.proofs.Common.{◌≡◌, ℕ, ◌+◌, ◌<◌, ◌≤◌, ◌==◌, ◌&&◌, if◌then◌else◌, max, min, Bool, true, false, cond, not, Option, None, Some, unwrap_or, option_map, List, [], ◌∷◌, ◌++◌, length, get_or, take, drop, map, find, refl, sym, ap, ap₂, ◌∙◌, arith}
+use Rattle.std.proofs.Common.{◌≡◌, ℕ, ◌+◌, ◌<◌, ◌≤◌, ◌==◌, ◌&&◌, ◌||◌, if◌then◌else◌, max, min, Bool, true, false, cond, not, Option, None, Some, unwrap_or, option_map, nat_le, List, [], ◌∷◌, ◌++◌, length, get_or, take, drop, map, filter, find, reverse, refl, sym, ap, ap₂, ◌∙◌, le_refl, le_trans, arith}
+use Rattle.std.specs.List.{list_any}
 use Rattle.std.proofs.lemmas.List.{at_drop_more, at_drop_all}
+use Rattle.std.proofs.lemmas.Bool.Decides.{nat_tests}
+use Rattle.std.proofs.lemmas.List.Sorted.{list_any-IsPermutation, IsPermutation-reverse}
+use Rattle.pipe_base.specs.declared.control.Addressed.{Addressed}
 use Rattle.pipe_base.specs.declared.name.LinkId.{LinkId}
 use Rattle.pipe_base.specs.declared.name.Ts.{Ts}
 use Rattle.pipe_base.specs.declared.packet.Plane.{Plane}
@@ -11,8 +15,8 @@ use Rattle.pipe_barrier.specs.declared.change.Change.{Change}
 use Rattle.pipe_barrier.specs.declared.change.Change.TheVariants.{Received, WentDown, Dropped}
 use Rattle.pipe_barrier.specs.declared.register.Register.{Register}
 use Rattle.pipe_barrier.specs.declared.registers.Barriers.{Barriers}
-use Rattle.pipe_barrier.specs.Register.{register_of, moment_of, changed, register_after, lowered, is_counted, value_of, least_from}
-use Rattle.pipe_barrier.specs.Registers.{AreBarriers, Stands, kept_with}
+use Rattle.pipe_barrier.specs.Register.{register_of, moment_of, changed, register_after, lowered, is_counted, value_of, least_from, told_of}
+use Rattle.pipe_barrier.specs.Registers.{AreBarriers, Stands, downs, downs_among, is_down, kept_with, holds}
 use Rattle.pipe_barrier.proofs.Walk.{read_ahead, found_first}
 
 -- ---- the registers
@@ -131,12 +135,6 @@ least_turn plane f low now xs i d y lt y_is now_is =
     (now_is ∙ ap (λ (r : Register). lowered low (is_counted plane r) (value_of plane r)) y_is)
     ∙ sym (at_drop_more (λ (rs : List Register). least_from plane low (map f rs)) xs i d lt)
 
-pub least_turn_in_place : (plane : Plane) (f : Register → Register) (low now : Option ℕ) (xs ys : List Register) (i : ℕ) (d y : Register) → i < length xs
-    → ys ≡ map f (take i xs) ++ drop i xs → y ≡ f (get_or ys i d) → now ≡ lowered low (is_counted plane y) (value_of plane y)
-    → least_from plane now (map f (drop (i + 1) xs)) ≡ least_from plane low (map f (drop i xs))
-least_turn_in_place plane f low now xs ys i d y lt is y_is =
-    least_turn plane f low now xs i d y lt (y_is ∙ ap f (read_ahead f xs ys i d lt is))
-
 -- at the end the value is the least of all
 least_at_end : (plane : Plane) (f : Register → Register) (low : Option ℕ) (links : List Register) (i : ℕ) → length links ≤ i
     → least_from plane low (map f (drop i links)) ≡ least_from plane None (map f links) → unwrap_or low 0 ≡ least_from plane None (map f links)
@@ -152,6 +150,89 @@ walk_follows ins l change past links old new be commit i stands past_end be_walk
     barriers_follow ins l change past links old new stands
     (be_is ∙ ap (max old.be.0) (least_at_end BestEffort (register_after l change) be links i past_end be_walk))
     (commit_is ∙ ap (max old.commit.0) (least_at_end Commit (register_after l change) commit links i past_end commit_walk))
+
+-- ---- what the controller is told
+
+told_first : (t : Bool) (r : Register) (l : LinkId) (ls : List LinkId) (told : List Addressed) (all : LinkId → Addressed) → told ≡ map all ls → all l ≡ told_of r
+    → (if t then told_of r ∷ told else told) ≡ map all (cond t (l ∷ ls) ls)
+told_first true r l ls told all is first = ap₂ (λ (a : Addressed) (bs : List Addressed). a ∷ bs) (sym first) is
+told_first false r l ls told all is first = is
+
+-- the registers tell of the links that are down
+pub downs_kept : (past : List Moment) (ins : List LinkId) → downs_among (map (register_of past) ins) ≡ downs ins past
+downs_kept past [] = refl
+downs_kept past (l ∷ ls) =
+    told_first (is_down past l) (register_of past l) l (filter (is_down past) ls) (downs_among (map (register_of past) ls)) (λ (m : LinkId). told_of (register_of past m)) (downs_kept past ls) refl
+
+-- ---- a link that holds the barriers
+
+-- a value that is known bounds the least
+within_turn : (t : Bool) (low value : ℕ) (rest : Option ℕ → ℕ) → ((n : ℕ) → rest (Some n) ≤ n) → rest (lowered (Some low) t value) ≤ low
+within_turn false low value rest all = all low
+within_turn true low value rest all = omega (arith, all (min low value))
+
+least_within : (plane : Plane) (low : ℕ) (rs : List Register) → least_from plane (Some low) rs ≤ low
+least_within plane low [] = le_refl low
+least_within plane low (r ∷ rs) =
+    within_turn (is_counted plane r) low (value_of plane r) (λ o. least_from plane o rs) (λ n. least_within plane n rs)
+
+-- and so does each that counts
+least_at : (plane : Plane) (low : Option ℕ) (r : Register) (rs : List Register) → is_counted plane r ≡ true → least_from plane low (r ∷ rs) ≤ value_of plane r
+least_at plane None r rs counted = rw counted (least_within plane (value_of plane r) rs)
+least_at plane (Some low) r rs counted = rw counted (omega (arith, least_within plane (min low (value_of plane r)) rs))
+
+-- the barrier in a plane
+abbrev bound_of : Plane → Barriers → ℕ
+bound_of BestEffort b = b.be.0
+bound_of Commit b = b.commit.0
+
+both : (s t : Bool) → (s && t) ≡ true → (s ≡ true) × (t ≡ true)
+both true t is = (refl, is)
+both false t is = absurd cc
+
+unlike : (t : Bool) → not t ≡ true → t ≡ false
+unlike true is = absurd cc
+unlike false is = refl
+
+held_at : (plane : Plane) (l : LinkId) (b : Barriers) (r : Register) → holds l b r ≡ true
+    → ((l.0 == r.link.0) ≡ false) × (is_counted plane r ≡ true) × (value_of plane r ≤ bound_of plane b)
+held_at plane l b r is =
+    let other = both (not (l.0 == r.link.0)) _ is in
+    let up = both r.up _ other.1 in
+    let kept = both r.kept _ up.1 in
+    let bounds = both (nat_le r.be.0 b.be.0) (nat_le r.commit.0 b.commit.0) kept.1 in
+    let known = at plane up.0 kept.0 bounds.0 bounds.1 in
+    (unlike (l.0 == r.link.0) other.0, known.0, known.1)
+  where
+    at : (plane : Plane) → r.up ≡ true → r.kept ≡ true → nat_le r.be.0 b.be.0 ≡ true → nat_le r.commit.0 b.commit.0 ≡ true
+        → (is_counted plane r ≡ true) × (value_of plane r ≤ bound_of plane b)
+    at BestEffort up kept be commit = (up, grind (arith, nat_tests))
+    at Commit up kept be commit = (kept, grind (arith, nat_tests))
+
+held_turn : (plane : Plane) (l : LinkId) (change : Change) (b : Barriers) (low : Option ℕ) (r : Register) (rs : List Register) (t : Bool)
+    → holds l b r ≡ t → (t || list_any (holds l b) rs) ≡ true
+    → ((o : Option ℕ) → list_any (holds l b) rs ≡ true → least_from plane o (map (register_after l change) rs) ≤ bound_of plane b)
+    → least_from plane low (map (register_after l change) (r ∷ rs)) ≤ bound_of plane b
+held_turn plane l change b low r rs true here is later =
+    let known = held_at plane l b r here in
+    let same : register_after l change r ≡ r = rw known.0 refl in
+    rw same (le_trans (least_at plane low r (map (register_after l change) rs) known.1) known.2)
+held_turn plane l change b low r rs false here is later = later _ is
+
+least_held : (plane : Plane) (l : LinkId) (change : Change) (b : Barriers) (low : Option ℕ) (rs : List Register)
+    → list_any (holds l b) rs ≡ true → least_from plane low (map (register_after l change) rs) ≤ bound_of plane b
+least_held plane l change b low [] none = absurd cc
+least_held plane l change b low (r ∷ rs) some =
+    held_turn plane l change b low r rs (holds l b r) refl some (λ o later. least_held plane l change b o rs later)
+
+pub held_follows : (ins : List LinkId) (l : LinkId) (change : Change) (past : List Moment) (links : List Register) (b : Barriers)
+    → Stands ins (kept_with links b) past → list_any (holds l b) (reverse links) ≡ true → AreBarriers ins (moment_of l change ∷ past) b
+held_follows ins l change past links b stands held =
+    let some : list_any (holds l b) links ≡ true =
+    list_any-IsPermutation (holds l b) links (reverse links) (IsPermutation-reverse links) ∙ held in
+    barriers_follow ins l change past links b b stands
+    (omega (arith, least_held BestEffort l change b None links some))
+    (omega (arith, least_held Commit l change b None links some))
 
 -- ---- a search among the registers
 

@@ -1,5 +1,8 @@
 -- What the register of one in-link keeps.
 use Rattle.std.specs.Prelude.{ℕ, ◌==◌, if◌then◌else◌, Bool, true, false, max, min, Option, None, Some, List, [], ◌∷◌, unwrap_or}
+use Rattle.pipe_base.specs.declared.control.Addressed.{Addressed}
+use Rattle.pipe_base.specs.declared.control.Control.TheVariants.{Down}
+use Rattle.pipe_base.specs.declared.control.To.TheVariants.{Controller}
 use Rattle.pipe_base.specs.declared.name.LinkId.{LinkId}
 use Rattle.pipe_base.specs.declared.packet.Plane.{Plane}
 use Rattle.pipe_base.specs.declared.packet.Plane.TheVariants.{BestEffort, Commit}
@@ -59,3 +62,7 @@ value_of Commit r = r.commit.0
 abbrev pub least_from : Plane → Option ℕ → List Register → ℕ
 least_from plane low [] = unwrap_or low 0
 least_from plane low (r ∷ rs) = least_from plane (lowered low (is_counted plane r) (value_of plane r)) rs
+
+-- what the controller is told of a link that is down
+abbrev pub told_of : Register → Addressed
+told_of r = record { to = Controller; control = Down r.link r.commit }

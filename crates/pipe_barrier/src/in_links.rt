@@ -2,13 +2,14 @@
 ghost use Rattle.std.specs.Prelude.{◌≡◌, ◌==◌, ◌&&◌, ◌∷◌, [], ℕ, List, IfOk};
 ghost use Rattle.pipe_base.specs.Moment.{Moment, Received, is_up, has_link, with_downed};
 ghost use Rattle.pipe_base.specs.Silence.{QuietCall, Took, Ticked, silent_marks};
-ghost use Rattle.pipe_barrier.specs.Registers.{AreBarriers};
+ghost use Rattle.pipe_barrier.specs.Registers.{AreBarriers, downs};
+ghost use Rattle.pipe_barrier.specs.Registers as registers;
 ghost use Rattle.pipe_barrier.specs.InLinks.{Stands, marks_among};
 
 use crate::quiet::Quiet;
 use crate::register::Register;
 use crate::{Barriers, Registers, Silence};
-use pipe_base::{DownList, LinkId, NoMemory, Ts};
+use pipe_base::{AddressedList, DownList, LinkId, NoMemory, Ts};
 use std::alloc::Global;
 
 /// What a node keeps of its in-links: the registers, and how long each has been silent.
@@ -88,9 +89,36 @@ impl InLinks {
         if marks.is_empty() {
             return Ok(self.registers.barriers());
         }
+        let registers = self.registers_without(marks)?;
+        Ok(registers.barriers())
+    }
+
+    /// What the controller is told after these links have gone down: of each in-link that is down
+    /// and not dropped, these too, its frozen value. The registers are copied only where some link
+    /// goes.
+    pub fn downs_with(&self, alloc: Global, marks: &DownList) -> Result<AddressedList, NoMemory>
+        ensures { IfOk result (λ told. (ins : List LinkId) (patience : ℕ)
+            (moments : List Moment) (calls : List QuietCall)
+            → Stands ins patience self.now moments calls
+            → told ≡ downs ins (with_downed marks.now moments)) }
+    {
+        if marks.is_empty() {
+            return self.registers.downs(alloc);
+        }
+        let registers = self.registers_without(marks)?;
+        registers.downs(alloc)
+    }
+
+    /// A copy of the registers after these links have gone down, one after the other.
+    fn registers_without(&self, marks: &DownList) -> Result<Registers, NoMemory>
+        ensures { IfOk result (λ copy. (ins : List LinkId) (patience : ℕ)
+            (moments : List Moment) (calls : List QuietCall)
+            → Stands ins patience self.now moments calls
+            → registers.Stands ins copy (with_downed marks.now moments)) }
+    {
         let mut registers = self.registers.try_clone()?;
         registers.down_each(marks.as_slice());
-        Ok(registers.barriers())
+        Ok(registers)
     }
 
     /// Takes over that a packet was received. Takes no memory.
@@ -112,6 +140,15 @@ impl InLinks {
     {
         self.registers.down_each(marks);
         self.silence.tick(now);
+    }
+
+    /// Takes over that these links went down. Takes no memory.
+    pub fn down(&mut self, marks: &[(LinkId, Ts)])
+        ensures { (ins : List LinkId) (patience : ℕ) (moments : List Moment) (calls : List QuietCall)
+            → Stands ins patience self.old moments calls
+            → Stands ins patience self.new (with_downed marks.now moments) calls }
+    {
+        self.registers.down_each(marks);
     }
 
     pub fn try_clone(&self) -> Result<InLinks, NoMemory>

@@ -20,16 +20,12 @@ impl Quiet {
         Quiet { link, start: None }
     }
 
-    /// After a packet was received on an in-link, this or another.
-    pub fn took(self, link: LinkId) -> Quiet
-        ensures { result ≡ quiet_after (Took link.0) self }
+    /// Takes over that a packet was received on an in-link, on this or another.
+    pub fn take(&mut self, link: LinkId)
+        ensures { self.new ≡ quiet_after (Took link.0) self.old }
     {
-        if link.0 != self.link.0 {
-            return self;
-        }
-        Quiet {
-            start: None,
-            ..self
+        if link.0 == self.link.0 {
+            self.start = None;
         }
     }
 

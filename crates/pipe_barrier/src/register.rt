@@ -1,9 +1,11 @@
 // The register of one in-link.
 ghost use Rattle.std.specs.Prelude.{◌≡◌};
-ghost use Rattle.pipe_barrier.specs.Register.{fresh_register, register_after, lowered};
+ghost use Rattle.pipe_barrier.specs.Register.{fresh_register, register_after, lowered, told_of};
+ghost use Rattle.pipe_barrier.specs.Registers.{holds};
 
+use crate::Barriers;
 use crate::change::Change;
-use pipe_base::{LinkId, Ts};
+use pipe_base::{Addressed, Control, LinkId, To, Ts};
 
 /// The greatest barriers received on an in-link, and whether the link is still in use.
 #[derive(Clone, Copy, Debug)]
@@ -59,6 +61,30 @@ impl Register {
                 ..self
             },
         }
+    }
+
+    /// What the controller is told of a link that is down: its frozen value.
+    pub fn told(self) -> Addressed
+        ensures { result ≡ told_of self }
+    {
+        Addressed {
+            to: To::Controller,
+            control: Control::Down {
+                link: self.link,
+                value: self.commit,
+            },
+        }
+    }
+
+    /// Whether this is another link than that one, in use, and not above either barrier.
+    pub fn holds(&self, link: LinkId, barriers: Barriers) -> bool
+        ensures { result ≡ holds link barriers self.now }
+    {
+        link.0 != self.link.0
+            && self.up
+            && self.kept
+            && self.be.0 <= barriers.be.0
+            && self.commit.0 <= barriers.commit.0
     }
 }
 

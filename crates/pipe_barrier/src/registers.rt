@@ -1,14 +1,15 @@
 // The registers of a node and its two barriers.
-ghost use Rattle.std.specs.Prelude.{◌≡◌, ◌==◌, ◌&&◌, ◌∷◌, [], if◌then◌else◌, List, max, map, not, None, unwrap_or, find, option_copied, IfOk};
+ghost use Rattle.std.specs.Prelude.{◌≡◌, ◌==◌, ◌&&◌, ◌∷◌, [], if◌then◌else◌, List, max, map, not, true, reverse, None, unwrap_or, find, option_copied, IfOk};
+ghost use Rattle.std.specs.List.{list_any};
 ghost use Rattle.pipe_base.specs.declared.packet.Plane.TheVariants.{BestEffort, Commit};
 ghost use Rattle.pipe_base.specs.Moment.{Moment, Received, WentDown, Dropped, is_up, is_kept, has_link, with_downed};
 ghost use Rattle.pipe_base.specs.Barrier.{register};
 ghost use Rattle.pipe_barrier.specs.Register.{moment_of, register_after, least_from};
-ghost use Rattle.pipe_barrier.specs.Registers.{Stands, AddsMoment, AreBarriersAfter, kept_with};
+ghost use Rattle.pipe_barrier.specs.Registers.{Stands, AddsMoment, AreBarriersAfter, downs, downs_among, kept_with, holds};
 
 use crate::change::Change;
 use crate::register::{Register, lower};
-use pipe_base::{LinkId, NoMemory, Ts};
+use pipe_base::{AddressedList, LinkId, NoMemory, Ts};
 use std::alloc::Global;
 use std::marker::Model;
 
@@ -148,6 +149,14 @@ impl Registers {
         }
     }
 
+    /// What the controller is told of the in-links that are down and not dropped: of each its frozen
+    /// value. One walk over the in-links.
+    pub(crate) fn downs(&self, alloc: Global) -> Result<AddressedList, NoMemory>
+        ensures { IfOk result (λ told. (ins : List LinkId) (past : List Moment) → Stands ins self.now past → told ≡ downs ins past) }
+    {
+        tell_downs(alloc, self.links())
+    }
+
     fn find(&self, link: LinkId) -> Option<&Register>
         ensures { option_copied result ≡ find (λ r. r.link.0 == link.0) self.now.links }
     {
@@ -188,24 +197,31 @@ impl Registers {
     }
 }
 
-/// Changes the register of one link and lets the barriers follow, in one walk.
+/// Changes the register of one link and lets the barriers follow.
 fn change_all(links: &mut [Register], barriers: Barriers, link: LinkId, change: Change) -> Barriers
     ensures { AddsMoment (kept_with links.old barriers) (kept_with links.new result) (moment_of link change) }
 {
-    let mut be = None;
-    let mut commit = None;
-    'links: for register in links.iter_mut() {
-        register.change(link, change);
-        be = lower(be, register.up, register.be);
-        commit = lower(commit, register.kept, register.commit);
-    }
-    barriers.follow(be, commit)
+    let after = barriers_after(links, barriers, link, change);
+    change_each(links, link, change);
+    after
 }
 
-/// The barriers that `change_all` would lead to.
+/// Changes the register of one link.
+fn change_each(links: &mut [Register], link: LinkId, change: Change)
+    ensures { links.new ≡ map (register_after link change) links.old }
+{
+    'links: for register in links.iter_mut() {
+        register.change(link, change);
+    }
+}
+
+/// The barriers that `change_all` would lead to. Mostly another link holds them where they are; else one walk.
 fn barriers_after(links: &[Register], barriers: Barriers, link: LinkId, change: Change) -> Barriers
     ensures { AreBarriersAfter (kept_with links.now barriers) (moment_of link change) result }
 {
+    if are_held(links, barriers, link) {
+        return barriers;
+    }
     let mut be = None;
     let mut commit = None;
     'links: for register in links {
@@ -214,4 +230,37 @@ fn barriers_after(links: &[Register], barriers: Barriers, link: LinkId, change: 
         commit = lower(commit, register.kept, register.commit);
     }
     barriers.follow(be, commit)
+}
+
+/// What the controller is told of the links that are down and not dropped.
+fn tell_downs(alloc: Global, links: &[Register]) -> Result<AddressedList, NoMemory>
+    ensures { IfOk result (λ told. told ≡ downs_among links.now) }
+{
+    let mut told = AddressedList::new(alloc);
+    'links: for register in links {
+        if register.kept && !register.up {
+            if told.is_empty() {
+                told.reserve(1)?;
+            }
+            told.push(register.told())?;
+        }
+    }
+    Ok(told)
+}
+
+/// Whether another link is found that holds both barriers where they are.
+fn are_held(links: &[Register], barriers: Barriers, link: LinkId) -> bool
+    ensures { result ≡ true → list_any (holds link barriers) (reverse links.now) ≡ true }
+{
+    if links.len() < 2 {
+        return false;
+    }
+    one_holds(links, barriers, link)
+}
+
+/// The last links are asked first, since packets mostly come in the order of the links.
+fn one_holds(links: &[Register], barriers: Barriers, link: LinkId) -> bool
+    ensures { result ≡ list_any (holds link barriers) (reverse links.now) }
+{
+    links.iter().rev().any(|r| r.holds(link, barriers))
 }

@@ -94,7 +94,7 @@ fn took_all(links: &mut [Quiet], link: LinkId)
     ensures { links.new ≡ map (quiet_after (Took link.0)) links.old }
 {
     'links: for quiet in links.iter_mut() {
-        *quiet = quiet.took(link);
+        quiet.take(link);
     }
 }
 

@@ -13,7 +13,7 @@ pub links-preserved : goal.links-preserved
 unfolding none
 links-preserved c =
     let within : c.links.quiet-index < length c.links.links = omega arith in
-    links_turn (quiet_after (Took c.args.link.0)) c.args.links.now c.links.links c.links.quiet-index none c.took.result c.links-test.true within c.links.invariant c.took.ensures
+    links_turn (quiet_after (Took c.args.link.0)) c.args.links.now c.links.links c.links.quiet-index none c.take.new.self c.links-test.true within c.links.invariant c.take.ensures
 
 pub returns : goal.returns
 returns c = links_at_end (quiet_after (Took c.args.link.0)) c.args.links.now c.links.links c.links.quiet-index c.links-test.false c.links.invariant
