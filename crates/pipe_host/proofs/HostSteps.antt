@@ -1,5 +1,7 @@
--- That what a host does with a packet and at a tick is what it owes.
+-- That what a host does with a packet, at a tick and with a control message is what it owes.
 use Rattle.std.proofs.Common.{◌≡◌, ℕ, ◌&&◌, if◌then◌else◌, Bool, true, false, List, [], ◌∷◌, ◌++◌, map, filter, Option, None, Some, refl, sym, subst, ap, ◌∙◌, arith, append-nil, zero-add, inl, inr}
+use Rattle.pipe_base.specs.declared.control.Addressed.{Addressed}
+use Rattle.pipe_base.specs.declared.control.Control.{Control}
 use Rattle.pipe_base.specs.declared.message.Entry.{Entry}
 use Rattle.pipe_base.specs.declared.message.Service.{Service}
 use Rattle.pipe_base.specs.declared.message.Service.TheVariants.{Reliable}
@@ -25,12 +27,13 @@ use Rattle.pipe_base.specs.Silence.{silent_marks}
 use Rattle.pipe_base.specs.Step.{quiet_step}
 use Rattle.pipe_base.specs.Ways.{lost, routed, with_beacons, with_ways}
 use Rattle.pipe_barrier.specs.declared.registers.Barriers.{Barriers}
-use Rattle.pipe_barrier.specs.Registers.{AreBarriers}
+use Rattle.pipe_barrier.specs.Registers.{AreBarriers, downs}
+use Rattle.pipe_links.proofs.Tells.{tells_marks}
 use Rattle.pipe_model.specs.declared.record.Record.{Record}
 use Rattle.pipe_model.specs.Clock.{next, promise}
 use Rattle.pipe_model.specs.Duties.{fields, host_be, owed_by_half, owed_by_host, owed_by_take}
-use Rattle.pipe_model.specs.Fate.{fate}
 use Rattle.pipe_model.specs.Got.{carries, gets, gets_of}
+use Rattle.pipe_model.specs.Marks.{told_marks}
 use Rattle.pipe_model.specs.Moments.{known_drops, moments_of, quiet_calls, received}
 use Rattle.pipe_model.specs.Run.{IsNodeStep}
 use Rattle.pipe_model.specs.Sender.{is_ack, sender_calls, with_answer}
@@ -39,7 +42,7 @@ use Rattle.pipe_relsend.proofs.SendingLaws.{promise_first}
 use Rattle.pipe_host.specs.declared.host.Host.{Host}
 use Rattle.pipe_host.specs.Buffers.{fate_among, logged_by}
 use Rattle.pipe_host.specs.Host.{Stands, StandsWith, buffers_with}
-use Rattle.pipe_host.specs.Steps.{IsReceipt, acks_for, fields_after, taken, ticked}
+use Rattle.pipe_host.specs.Steps.{IsReceipt, acks_for, fields_after, taken, ticked, told}
 use Rattle.pipe_host.proofs.HeldLaws.{Brought, brought}
 use Rattle.pipe_host.proofs.RecordLaws.{fate_with, logs, still_buffers, still_fate, still_logged}
 
@@ -195,18 +198,19 @@ receives graph node own link p place keep all k step stands up fate_is receipt =
     })
 
 -- a tick
-pub ticks : (graph : Graph) (node : NodeId) (own : List Record) (now : Ts) (marks : List (LinkId × Ts)) (b : Barriers) (n : ℕ) (k : Host) (step : Step)
+pub ticks : (graph : Graph) (node : NodeId) (own : List Record) (now : Ts) (marks : List (LinkId × Ts)) (tells : List Addressed) (b : Barriers) (n : ℕ) (k : Host) (step : Step)
     → Stands graph node.0 own k → marks ≡ silent_marks graph.patience (ins_of graph node.0) (moments_of own) (quiet_calls own) now.0
-    → AreBarriers (ins_of graph node.0) (with_downed marks (moments_of own)) b → n ≡ next_after (next own) now.0 None (logged_by b k.held)
+    → tells ≡ downs (ins_of graph node.0) (with_downed marks (moments_of own)) → AreBarriers (ins_of graph node.0) (with_downed marks (moments_of own)) b
+    → n ≡ next_after (next own) now.0 None (logged_by b k.held)
     → (f : Fields) → f ≡ record { be = n; commit = promise_of n (sender_calls graph node.0 own) }
     → step ≡ with_beacons (outs_of graph node.0) f
-    (with_ways (route graph [] node.0) (resends (sender_calls graph node.0 own) (record { 0 = node.0 }) f) (record (quiet_step Ok) { downed = marks; logged = logged_by b k.held }))
+    (with_ways (route graph [] node.0) (resends (sender_calls graph node.0 own) (record { 0 = node.0 }) f) (record (quiet_step Ok) { downed = marks; control = tells; logged = logged_by b k.held }))
     → IsNodeStep graph node.0 own (ticked node now step)
-ticks graph node own now marks b n k step stands marks_are are next_is f f_is step_is =
+ticks graph node own now marks tells b n k step stands marks_are tells_are are next_is f f_is step_is =
     let calls : List SenderCall = sender_calls graph node.0 own in
     let log : List (Service × Entry) = logged_by b k.held in
     let again : List Packet = resends calls (record { 0 = node.0 }) f in
-    let s : Step = with_beacons (outs_of graph node.0) f (with_ways (route graph [] node.0) again (record (quiet_step Ok) { downed = marks; logged = log })) in
+    let s : Step = with_beacons (outs_of graph node.0) f (with_ways (route graph [] node.0) again (record (quiet_step Ok) { downed = marks; control = tells; logged = log })) in
     let r : Record = ticked node now s in
     let fields_is : fields graph node.0 own r ≡ f = fields_of_host graph node.0 own r n n calls stands.host (sym next_is) (sym next_is) refl ∙ sym f_is in
     let drops_now : known_drops (r ∷ own) ≡ [] = ap (λ (ls : List LinkId). ls ++ []) stands.links_are.no_drops in
@@ -236,5 +240,26 @@ ticks graph node own now marks b n k step stands marks_are are next_is f f_is st
           zero-add (lost (route graph [] node.0) again)
           ∙ sym (ap (λ (ls : List LinkId). lost (route graph ls node.0) (resent (fields graph node.0 own r))) drops_now
           ∙ ap (lost (route graph [] node.0)) owes);
+      control_is = tells_are ∙ tells_marks graph node.0 own r stands.links_are.history marks_are;
+    })
+
+-- a control message
+pub obeys : (graph : Graph) (node : NodeId) (own : List Record) (control : Control) (place : ℕ) (keep : Bool) (marks : List (LinkId × Ts)) (b : Barriers) (k : Host) (step : Step)
+    → Stands graph node.0 own k → marks ≡ told_marks (ins_of graph node.0) (moments_of own) control → AreBarriers (ins_of graph node.0) (with_downed marks (moments_of own)) b
+    → step ≡ record (quiet_step Ok) { downed = marks; logged = logged_by b k.held } → IsNodeStep graph node.0 own (told node control place keep step)
+obeys graph node own control place keep marks b k step stands marks_are are step_is =
+    let s : Step = record (quiet_step Ok) { downed = marks; logged = logged_by b k.held } in
+    let r : Record = told node control place keep s in
+    subst (λ (x : Step). IsNodeStep graph node.0 own (told node control place keep x)) (sym step_is)
+    (record {
+      outcome_is = refl;
+      downed_is = marks_are;
+      dropped_is = refl;
+      noted_is = refl;
+      stamped_is = refl;
+      fate_is = refl;
+      logged_is = ap (logged_by b) (stands.held_are ∙ sym (still_buffers graph node.0 own r refl)) ∙ logs graph node.0 own r b are;
+      put_is = refl;
+      unrouted_is = refl;
       control_is = refl;
     })

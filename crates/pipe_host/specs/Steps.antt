@@ -1,5 +1,7 @@
--- What a host works out of a send, a packet and a tick, in terms of what it keeps.
+-- What a host works out of a send, a packet, a tick and a control message, in terms of what it keeps.
 use Rattle.std.specs.Prelude.{◌≡◌, ℕ, ◌&&◌, if◌then◌else◌, Bool, max, List, [], ◌∷◌, Option}
+use Rattle.pipe_base.specs.declared.control.Control.{Control}
+use Rattle.pipe_base.specs.declared.control.To.TheVariants.{Node}
 use Rattle.pipe_base.specs.declared.message.Entry.{Entry}
 use Rattle.pipe_base.specs.declared.message.Service.{Service}
 use Rattle.pipe_base.specs.declared.message.Service.TheVariants.{Reliable}
@@ -22,9 +24,9 @@ use Rattle.pipe_base.specs.Ways.{with_ways}
 use Rattle.pipe_barrier.specs.declared.registers.Barriers.{Barriers}
 use Rattle.pipe_barrier.specs.Registers.{AreBarriers}
 use Rattle.pipe_links.specs.Links as links
-use Rattle.pipe_model.specs.declared.event.Event.TheVariants.{Send, Take, Tick}
+use Rattle.pipe_model.specs.declared.event.Event.TheVariants.{ControlTake, Send, Take, Tick}
 use Rattle.pipe_model.specs.declared.record.Record.{Record}
-use Rattle.pipe_model.specs.declared.record.Took.TheVariants.{Link, Nothing}
+use Rattle.pipe_model.specs.declared.record.Took.TheVariants.{Link, Message, Nothing}
 use Rattle.pipe_model.specs.Got.{carries}
 use Rattle.pipe_model.specs.Moments.{moments_of}
 use Rattle.pipe_relsend.specs.Preparation.{Preparation}
@@ -43,6 +45,10 @@ taken link p place keep step = record { event = Take link place keep; took = Lin
 -- a node's clock read this
 abbrev pub ticked : NodeId → Ts → Step → Record
 ticked node now step = record { event = Tick node now; took = Nothing; step = step }
+
+-- a node was told this by a control message
+abbrev pub told : NodeId → Control → ℕ → Bool → Step → Record
+told node control place keep step = record { event = ControlTake place keep; took = Message (record { to = Node node; control = control }); step = step }
 
 -- the two barriers of a host's packets, with this next timestamp
 abbrev pub fields_at : ℕ → List Preparation → Fields

@@ -14,13 +14,16 @@ ghost use Rattle.pipe_model.specs.Run.{IsNodeStep};
 ghost use Rattle.pipe_model.specs.Sender.{sender_calls};
 ghost use Rattle.pipe_relsend.specs.Sending as sending;
 ghost use Rattle.pipe_host.specs.Host.{Does, Stands, StandsWith, buffer_with};
-ghost use Rattle.pipe_host.specs.Steps.{sent, taken, ticked};
+ghost use Rattle.pipe_host.specs.Steps.{sent, taken, ticked, told};
 
 use crate::buffers::Buffers;
 use crate::records::{acknowledge, give_back, take_back};
 use crate::times::follow;
 use pipe_barrier::Registers;
-use pipe_base::{DestList, HostId, LinkId, NoMemory, NodeId, Outcome, Packet, Service, Step, Ts};
+use pipe_base::{
+    Addressed, Control, DestList, HostId, LinkId, NoMemory, NodeId, Outcome, Packet, Service, Step,
+    To, Ts,
+};
 use pipe_clock::HostClock;
 use pipe_links::Links;
 use pipe_model::{Event, Record, Took};
@@ -32,9 +35,9 @@ use std::alloc::Global;
 /// A host: the registers of the links into it, its clock, the sender of its reliable scatterings, and the messages that it
 /// holds. Contracts speak of any records of its own for which it stands.
 ///
-/// A step goes in two phases, for a caller that may still refuse it: `work_send`, `work_take` or `work_tick` works it out,
-/// and then either `follow` takes its record over or `undo` gives back what was held or begun for it. `send`, `take` and
-/// `tick` are both phases in one call.
+/// A step goes in two phases, for a caller that may still refuse it: `work_send`, `work_take`, `work_tick` or `work_control`
+/// works it out, and then either `follow` takes its record over or `undo` gives back what was held or begun for it. `send`,
+/// `take`, `tick` and `control` are both phases in one call.
 #[derive(Drop)]
 pub struct Host {
     pub(crate) alloc: Global,
@@ -106,24 +109,24 @@ impl Host {
     }
 
     /// Takes over the record of a step that was worked out. Takes no memory.
-    pub fn follow(&mut self, record: &Record)
-        ensures { (graph : Graph) (node : ℕ) (own : List ARecord) → StandsWith graph node own «record».now self.old
-            → ComesIn graph node «record».now.event → IsNodeStep graph node own «record».now
-            → Stands graph node («record».now ∷ own) self.new }
+    pub fn follow(&mut self, made: &Record)
+        ensures { (graph : Graph) (node : ℕ) (own : List ARecord) → StandsWith graph node own made.now self.old
+            → ComesIn graph node made.now.event → IsNodeStep graph node own made.now
+            → Stands graph node (made.now ∷ own) self.new }
     {
-        acknowledge(&mut self.sender, &self.links, record);
-        self.links.follow(record);
-        follow(&mut self.clock, record);
+        acknowledge(&mut self.sender, &self.links, made);
+        self.links.follow(made);
+        follow(&mut self.clock, made);
         self.held.drop_passed(self.links.barriers());
     }
 
     /// Gives back what was held or begun for a step that was worked out and is refused. Takes no memory.
-    pub fn undo(&mut self, record: &Record)
-        ensures { (graph : Graph) (node : ℕ) (own : List ARecord) → StandsWith graph node own «record».now self.old
-            → IsNodeStep graph node own «record».now → Stands graph node own self.new }
+    pub fn undo(&mut self, made: &Record)
+        ensures { (graph : Graph) (node : ℕ) (own : List ARecord) → StandsWith graph node own made.now self.old
+            → IsNodeStep graph node own made.now → Stands graph node own self.new }
     {
-        give_back(&mut self.held, record);
-        take_back(&mut self.sender, record);
+        give_back(&mut self.held, made);
+        take_back(&mut self.sender, made);
     }
 
     /// Sends a scattering. The step is empty first, and after want of memory, which changes nothing.
@@ -193,6 +196,32 @@ impl Host {
                 now,
             },
             took: Took::Nothing,
+            step: worked,
+        };
+        self.follow(&record);
+        *step = record.step.into_step(self.alloc);
+        Ok(())
+    }
+
+    /// Takes a control message to the host. The step is empty first, and after want of memory, which changes nothing.
+    pub fn control(&mut self, control: Control, step: &mut Step) -> Result<(), NoMemory>
+        ensures ok { OnOk result ((graph : Graph) (node : NodeId) (own : List ARecord) (place : ℕ) (keep : Bool) → Stands graph node.0 own self.old
+            → Does graph node.0 own (told node control place keep step.new) self.new) }
+        ensures err { OnErr result ((self.new ≡ self.old) × (step.new ≡ quiet_step Outcome.Ok)) }
+    {
+        *step = Step::new(self.alloc);
+        let worked = self.work_control(&control)?;
+        let record = Record {
+            event: Event::ControlTake {
+                place: 0,
+                keep: false,
+            },
+            took: Took::Message {
+                addressed: Addressed {
+                    to: To::Node(self.links.node()),
+                    control,
+                },
+            },
             step: worked,
         };
         self.follow(&record);

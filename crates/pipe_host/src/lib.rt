@@ -5,6 +5,7 @@
 mod buffers;
 mod fates;
 mod host;
+mod obeying;
 mod records;
 mod sending;
 mod taking;

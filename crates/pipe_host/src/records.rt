@@ -19,24 +19,24 @@ use pipe_model::{Event, Record, Took};
 use pipe_relsend::Sender;
 
 /// Hands the acknowledgement to the sender that the record brings to the host with these links, if it brings one.
-pub fn acknowledge(sender: &mut Sender, links: &Links, record: &Record)
+pub fn acknowledge(sender: &mut Sender, links: &Links, made: &Record)
     ensures { (graph : Graph) (node : ℕ) (own : List ARecord) (calls : List SenderCall) → Stands graph node own links.now → is_host graph node ≡ true
-        → ComesIn graph node «record».now.event → sending.Stands calls sender.old → sending.Stands (with_answer (gets graph node own «record».now) calls) sender.new }
+        → ComesIn graph node made.now.event → sending.Stands calls sender.old → sending.Stands (with_answer (gets graph node own made.now) calls) sender.new }
 {
-    if let Some((ts, host)) = acknowledged(links, record) {
+    if let Some((ts, host)) = acknowledged(links, made) {
         sender.ack(ts, host);
     }
 }
 
 /// Which timestamp the record acknowledges to the host with these links, and by whom.
-fn acknowledged(links: &Links, record: &Record) -> Option<(Ts, HostId)>
+fn acknowledged(links: &Links, made: &Record) -> Option<(Ts, HostId)>
     ensures { (graph : Graph) (node : ℕ) (own : List ARecord) (calls : List SenderCall) → Stands graph node own links.now → is_host graph node ≡ true
-        → ComesIn graph node «record».now.event → with_answer (gets graph node own «record».now) calls ≡ with_ack result calls }
+        → ComesIn graph node made.now.event → with_answer (gets graph node own made.now) calls ≡ with_ack result calls }
 {
-    let Event::Take { link, .. } = &record.event else {
+    let Event::Take { link, .. } = &made.event else {
         return None;
     };
-    let Took::Link { link: from, packet } = &record.took else {
+    let Took::Link { link: from, packet } = &made.took else {
         return None;
     };
     if !is_ack(packet.kind) || packet.dst.0 != links.node().0 {
@@ -55,34 +55,34 @@ fn is_ack(kind: PacketKind) -> bool
 }
 
 /// Holds the message no more that is held for the record.
-pub fn give_back(held: &mut Buffers, record: &Record)
-    ensures { (graph : Graph) (node : ℕ) (own : List ARecord) → IsNodeStep graph node own «record».now
-        → held.old ≡ buffers_with graph node own («record».now ∷ own) → held.new ≡ buffers_with graph node own own }
+pub fn give_back(held: &mut Buffers, made: &Record)
+    ensures { (graph : Graph) (node : ℕ) (own : List ARecord) → IsNodeStep graph node own made.now
+        → held.old ≡ buffers_with graph node own (made.now ∷ own) → held.new ≡ buffers_with graph node own own }
 {
-    if let Took::Link { packet, .. } = &record.took {
-        held.let_go(record.step.fate(), packet);
+    if let Took::Link { packet, .. } = &made.took {
+        held.let_go(made.step.fate(), packet);
     }
 }
 
 /// Takes the scattering back that was begun for the record.
-pub fn take_back(sender: &mut Sender, record: &Record)
-    ensures { (calls : List SenderCall) → HasReceiver «record».now.event
-        → sending.Stands (with_begun «record».now.event «record».now.step.stamped calls) sender.old → sending.Stands calls sender.new }
+pub fn take_back(sender: &mut Sender, made: &Record)
+    ensures { (calls : List SenderCall) → HasReceiver made.now.event
+        → sending.Stands (with_begun made.now.event made.now.step.stamped calls) sender.old → sending.Stands calls sender.new }
 {
-    if has_begun(record) {
+    if has_begun(made) {
         sender.unbegin();
     }
 }
 
 /// Whether the record is a reliable send that was stamped.
-fn has_begun(record: &Record) -> bool
-    ensures { result ≡ has_begun «record».now.event «record».now.step.stamped }
+fn has_begun(made: &Record) -> bool
+    ensures { result ≡ has_begun made.now.event made.now.step.stamped }
 {
-    match &record.event {
+    match &made.event {
         Event::Send {
             service: Service::Reliable,
             ..
-        } => record.step.stamped().is_some(),
+        } => made.step.stamped().is_some(),
         _ => false,
     }
 }

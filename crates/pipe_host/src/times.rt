@@ -19,13 +19,13 @@ pub fn deliver(clock: &mut HostClock, logged: &[(Service, Entry)])
 }
 
 /// The clock follows a record of its host, which logged below the end of the type.
-pub fn follow(clock: &mut HostClock, record: &Record)
-    ensures { AreBelow (2 ^ 64 - 1) «record».now.step.logged → IfSome «record».now.step.stamped (λ ts. ts.0 ≤ last_stamp)
-        → clock.new.next.0 ≡ next_after clock.old.next.0 (tick_reading «record».now.event) «record».now.step.stamped «record».now.step.logged }
+pub fn follow(clock: &mut HostClock, made: &Record)
+    ensures { AreBelow (2 ^ 64 - 1) made.now.step.logged → IfSome made.now.step.stamped (λ ts. ts.0 ≤ last_stamp)
+        → clock.new.next.0 ≡ next_after clock.old.next.0 (tick_reading made.now.event) made.now.step.stamped made.now.step.logged }
 {
-    read(clock, &record.event);
-    stamp(clock, record.step.stamped());
-    deliver(clock, record.step.logged());
+    read(clock, &made.event);
+    stamp(clock, made.step.stamped());
+    deliver(clock, made.step.logged());
 }
 
 /// The clock is at least the reading of a tick.

@@ -11,7 +11,7 @@ use Rattle.pipe_barrier.specs.InLinks as in_links
 use Rattle.pipe_model.specs.declared.record.Record.{Record}
 use Rattle.pipe_model.specs.Moments.{moments_of, quiet_calls, received, tick_of}
 use Rattle.pipe_model.specs.Run.{IsNodeStep}
-use Rattle.pipe_model.proofs.Steps.{moments_marked, moments_received, receipt_no_tick}
+use Rattle.pipe_model.proofs.Steps.{moments_marked, moments_received}
 use Rattle.pipe_links.specs.declared.links.Receipt.{Receipt}
 use Rattle.pipe_links.specs.Links.{InsStand, receipt_of}
 
@@ -37,7 +37,7 @@ pub received_follows : (graph : Graph) (node : ℕ) (own : List Record) (r : Rec
     → InsStand graph node (r ∷ own) k
 received_follows graph node own r q x k step is same stands =
     stand_for graph node own r k (Received x.link.0 x.be.0 x.commit.0 ∷ moments_of own) (Took x.link.0 ∷ quiet_calls own)
-    (moments_received graph node own r (Some q) step (receipt_no_tick own r q is) is
+    (moments_received graph node own r q step is
     ∙ ap (λ (y : Receipt). Received y.link.0 y.be.0 y.commit.0 ∷ moments_of own) (sym same))
     (let calls : quiet_calls (r ∷ own) ≡ Took q.0 ∷ quiet_calls own = rw is refl in
     calls ∙ ap (λ (y : Receipt). Took y.link.0 ∷ quiet_calls own) (sym same))
@@ -51,3 +51,10 @@ pub tick_follows : (graph : Graph) (node : ℕ) (own : List Record) (r : Record)
 tick_follows graph node own r now k step none is stands =
     stand_for graph node own r k (with_downed r.step.downed (moments_of own)) (Ticked now.0 ∷ quiet_calls own)
     (moments_marked graph node own r step none) (rw (none, is) refl) stands
+
+-- a record that neither receives nor ticks
+pub marks_follow : (graph : Graph) (node : ℕ) (own : List Record) (r : Record) (k : InLinks) → IsNodeStep graph node own r → received own r ≡ None → None ≡ tick_of r.event
+    → in_links.Stands (ins_of graph node) graph.patience k (with_downed r.step.downed (moments_of own)) (quiet_calls own) → InsStand graph node (r ∷ own) k
+marks_follow graph node own r k step none other stands =
+    let no_tick : tick_of r.event ≡ None = sym other in
+    stand_for graph node own r k (with_downed r.step.downed (moments_of own)) (quiet_calls own) (moments_marked graph node own r step none) (rw (none, no_tick) refl) stands

@@ -1,5 +1,5 @@
 -- The ways of a node that knows no link as dropped.
-use Rattle.std.proofs.Common.{◌≡◌, ℕ, Bool, false, not, List, [], length, replicate, Option, ap, sym, ◌∙◌}
+use Rattle.std.proofs.Common.{◌≡◌, ℕ, false, not, List, [], length, replicate, Option, ap, ◌∙◌}
 use Rattle.std.proofs.lemmas.List.{get_or-replicate}
 use Rattle.pipe_base.specs.declared.name.LinkId.{LinkId}
 use Rattle.pipe_base.specs.declared.packet.Packet.{Packet}

@@ -1,6 +1,5 @@
 -- What is kept of the links of a node, and what it stands for.
-use Rattle.std.specs.Prelude.{◌≡◌, ℕ, List, [], ◌∷◌, Option}
-use Rattle.pipe_base.specs.declared.name.LinkId.{LinkId}
+use Rattle.std.specs.Prelude.{◌≡◌, ℕ, List, []}
 use Rattle.pipe_base.specs.declared.packet.Packet.{Packet}
 use Rattle.pipe_base.specs.declared.packet.Plane.TheVariants as plane
 use Rattle.pipe_base.specs.Graph.{Graph, ins_of, outs_of}
@@ -10,6 +9,7 @@ use Rattle.pipe_barrier.specs.declared.registers.Barriers.{Barriers}
 use Rattle.pipe_barrier.specs.InLinks as in_links
 use Rattle.pipe_model.specs.declared.record.Record.{Record}
 use Rattle.pipe_model.specs.Moments.{barrier_at, known_drops, moments_of, quiet_calls}
+use Rattle.pipe_model.specs.Run.{IsNodeHistory}
 use Rattle.pipe_route.specs.Routing.{routing_by}
 use Rattle.pipe_links.specs.declared.links.Links.{Links}
 use Rattle.pipe_links.specs.declared.links.Receipt.{Receipt}
@@ -18,13 +18,14 @@ use Rattle.pipe_links.specs.declared.links.Receipt.{Receipt}
 abbrev pub InsStand : Graph → ℕ → List Record → InLinks → Type 0
 InsStand graph node own k = in_links.Stands (ins_of graph node) graph.patience k (moments_of own) (quiet_calls own)
 
--- What is kept of a node's links is what the rules say after the node's own records.
+-- What is kept of a node's links is what the rules say after the node's own records, each of which is what the node owes.
 pub record Stands (graph : Graph) (node : ℕ) (own : List Record) (k : Links) : Type 0 where
   pub node_is : k.node.0 ≡ node
   pub outs_are : k.outs ≡ outs_of graph node
   pub routes_are : k.routes ≡ routing_by graph (not_dropped []) node
   pub ins_are : InsStand graph node own k.ins
   pub no_drops : known_drops own ≡ []
+  pub history : IsNodeHistory graph node own
 
 -- these are the node's two barriers after its own records
 pub record AreBarriersAt (graph : Graph) (node : ℕ) (own : List Record) (b : Barriers) : Type 0 where

@@ -7,16 +7,19 @@ ghost use Rattle.pipe_base.specs.Moment as moment;
 ghost use Rattle.pipe_base.specs.ShortestRoute.{route};
 ghost use Rattle.pipe_base.specs.Silence.{silent_marks};
 ghost use Rattle.pipe_base.specs.Ways.{PutsAlone, with_beacons, with_ways};
-ghost use Rattle.pipe_barrier.specs.Registers.{AreBarriers};
+ghost use Rattle.pipe_barrier.specs.Registers.{AreBarriers, downs};
 ghost use Rattle.pipe_barrier.specs.Registers as registers;
 ghost use Rattle.pipe_model.specs.declared.record.Record.{Record as ARecord};
 ghost use Rattle.pipe_model.specs.Acting.{ComesIn};
+ghost use Rattle.pipe_model.specs.Marks.{told_marks};
 ghost use Rattle.pipe_model.specs.Moments.{moments_of, quiet_calls, received, tick_of};
 ghost use Rattle.pipe_model.specs.Run.{IsNodeStep};
 ghost use Rattle.pipe_links.specs.Links.{AreBarriersAt, InsStand, Stands, receipt_of};
 
 use pipe_barrier::{Barriers, InLinks, Registers};
-use pipe_base::{DownList, LinkId, List, NoMemory, NodeId, Packet, Step, Ts};
+use pipe_base::{
+    AddressedList, Control, DownList, LinkId, List, NoMemory, NodeId, Packet, Step, Ts,
+};
 use pipe_model::{Event, Record, Took};
 use pipe_route::Routes;
 use pipe_topo::{LinkSet, Topology};
@@ -108,12 +111,45 @@ impl Links {
         self.ins.silent_marks(alloc, now)
     }
 
+    /// The in-links that a control message takes down, each with its frozen value: a freeze its link, where that is an
+    /// in-link that is up.
+    pub fn told_marks(&self, alloc: Global, control: &Control) -> Result<DownList, NoMemory>
+        ensures { IfOk result (λ marks. (graph : Graph) (node : ℕ) (own : List ARecord) → Stands graph node own self.now
+            → marks ≡ told_marks (ins_of graph node) (moments_of own) control.now) }
+    {
+        match control {
+            Control::Freeze { link } => self.mark_if_up(alloc, *link),
+            _ => Ok(DownList::new(alloc)),
+        }
+    }
+
+    /// The link with its frozen value, where it is an in-link that is up.
+    fn mark_if_up(&self, alloc: Global, link: LinkId) -> Result<DownList, NoMemory>
+        ensures { IfOk result (λ marks. (graph : Graph) (node : ℕ) (own : List ARecord) → Stands graph node own self.now
+            → marks ≡ told_marks (ins_of graph node) (moments_of own) (Control.Freeze link)) }
+    {
+        let mut marks = DownList::new(alloc);
+        if self.is_up(link) {
+            marks.push((link, self.registers().frozen(link)))?;
+        }
+        Ok(marks)
+    }
+
     /// The barriers after these links have gone down, one after the other.
     pub fn barriers_without(&self, marks: &DownList) -> Result<Barriers, NoMemory>
         ensures { IfOk result (λ barriers. (graph : Graph) (node : ℕ) (own : List ARecord) → Stands graph node own self.now
             → AreBarriers (ins_of graph node) (with_downed marks.now (moments_of own)) barriers) }
     {
         self.ins.barriers_without(marks)
+    }
+
+    /// What the controller is told after these links have gone down: of each in-link that is down and not dropped, these
+    /// too, its frozen value.
+    pub fn downs_with(&self, alloc: Global, marks: &DownList) -> Result<AddressedList, NoMemory>
+        ensures { IfOk result (λ told. (graph : Graph) (node : ℕ) (own : List ARecord) → Stands graph node own self.now
+            → told ≡ downs (ins_of graph node) (with_downed marks.now (moments_of own))) }
+    {
+        self.ins.downs_with(alloc, marks)
     }
 
     /// Puts a packet on its way, or counts it where it has none.
@@ -141,11 +177,11 @@ impl Links {
     }
 
     /// Takes over what a record of the node's own did to its in-links. Takes no memory.
-    pub fn follow(&mut self, record: &Record)
-        ensures { (graph : Graph) (node : ℕ) (own : List ARecord) → Stands graph node own self.old → ComesIn graph node «record».now.event
-            → IsNodeStep graph node own «record».now → Stands graph node («record».now ∷ own) self.new }
+    pub fn follow(&mut self, made: &Record)
+        ensures { (graph : Graph) (node : ℕ) (own : List ARecord) → Stands graph node own self.old → ComesIn graph node made.now.event
+            → IsNodeStep graph node own made.now → Stands graph node (made.now ∷ own) self.new }
     {
-        follow(&mut self.ins, record);
+        follow(&mut self.ins, made);
     }
 
     pub fn try_clone(&self) -> Result<Links, NoMemory>
@@ -173,29 +209,28 @@ fn copy_links(links: &List<LinkId>) -> Result<List<LinkId>, NoMemory>
 }
 
 /// Takes over what a record did to the in-links.
-fn follow(ins: &mut InLinks, record: &Record)
-    ensures { (graph : Graph) (node : ℕ) (own : List ARecord) → InsStand graph node own ins.old → ComesIn graph node «record».now.event
-        → IsNodeStep graph node own «record».now → InsStand graph node («record».now ∷ own) ins.new }
+fn follow(ins: &mut InLinks, made: &Record)
+    ensures { (graph : Graph) (node : ℕ) (own : List ARecord) → InsStand graph node own ins.old → ComesIn graph node made.now.event
+        → IsNodeStep graph node own made.now → InsStand graph node (made.now ∷ own) ins.new }
 {
-    match received(ins, record) {
+    match received(ins, made) {
         Some(receipt) => ins.receive(receipt.link, receipt.be, receipt.commit),
-        None => {
-            if let Some(now) = tick_of(&record.event) {
-                ins.tick(now, record.step.downed());
-            }
-        }
+        None => match tick_of(&made.event) {
+            Some(now) => ins.tick(now, made.step.downed()),
+            None => ins.down(made.step.downed()),
+        },
     }
 }
 
 /// What the record received: a packet that was taken from a link that is up.
-fn received(ins: &InLinks, record: &Record) -> Option<Receipt>
-    ensures { (graph : Graph) (node : ℕ) (own : List ARecord) → InsStand graph node own ins.now → ComesIn graph node «record».now.event
-        → result ≡ option_map receipt_of (received own «record».now) }
+fn received(ins: &InLinks, made: &Record) -> Option<Receipt>
+    ensures { (graph : Graph) (node : ℕ) (own : List ARecord) → InsStand graph node own ins.now → ComesIn graph node made.now.event
+        → result ≡ option_map receipt_of (received own made.now) }
 {
-    let Event::Take { link, .. } = &record.event else {
+    let Event::Take { link, .. } = &made.event else {
         return None;
     };
-    let Took::Link { link: from, packet } = &record.took else {
+    let Took::Link { link: from, packet } = &made.took else {
         return None;
     };
     if from.0 != link.0 || !ins.is_up(*link) {

@@ -1,5 +1,7 @@
 -- That the steps of a half are what it owes.
 use Rattle.std.proofs.Common.{◌≡◌, ℕ, ◌&&◌, if◌then◌else◌, Bool, true, false, List, [], ◌∷◌, ◌++◌, map, filter, Option, None, Some, refl, sym, subst, ap, ◌∙◌, append-nil, zero-add}
+use Rattle.pipe_base.specs.declared.control.Addressed.{Addressed}
+use Rattle.pipe_base.specs.declared.control.Control.{Control}
 use Rattle.pipe_base.specs.declared.name.LinkId.{LinkId}
 use Rattle.pipe_base.specs.declared.name.NodeId.{NodeId}
 use Rattle.pipe_base.specs.declared.name.Ts.{Ts}
@@ -17,15 +19,17 @@ use Rattle.pipe_base.specs.Silence.{silent_marks}
 use Rattle.pipe_base.specs.Step.{quiet_step}
 use Rattle.pipe_base.specs.Ways.{lost, routed, with_beacons, with_ways}
 use Rattle.pipe_barrier.specs.declared.registers.Barriers.{Barriers}
-use Rattle.pipe_barrier.specs.Registers.{AreBarriers}
+use Rattle.pipe_barrier.specs.Registers.{AreBarriers, downs}
+use Rattle.pipe_links.proofs.Tells.{tells_marks}
 use Rattle.pipe_model.specs.declared.record.Record.{Record}
 use Rattle.pipe_model.specs.Duties.{beacons, fields, owed_by_half, owed_by_host, owed_by_take, owed_by_tick}
 use Rattle.pipe_model.specs.Got.{gets}
+use Rattle.pipe_model.specs.Marks.{told_marks}
 use Rattle.pipe_model.specs.Moments.{barrier_at, known_drops, moments_of, quiet_calls, received}
-use Rattle.pipe_model.specs.Run.{IsNodeStep}
+use Rattle.pipe_model.specs.Run.{IsNodeHistory, IsNodeStep}
 use Rattle.pipe_model.specs.Sender.{sender_calls}
 use Rattle.pipe_model.proofs.Steps.{no_drop, no_fate, no_host, no_log, taken_ignored, taken_received}
-use Rattle.pipe_switch.specs.Half.{passed_on, taken, ticked}
+use Rattle.pipe_switch.specs.Half.{passed_on, taken, ticked, told}
 
 -- whether the link is up, from what the walk over the in-links tells
 pub up_from : (told known up : Bool) → told ≡ (known && up) → known ≡ true → up ≡ told
@@ -120,14 +124,15 @@ passes graph node own link p place keep b step half drops up are step_is =
     })
 
 -- a tick
-pub ticks : (graph : Graph) (node : NodeId) (own : List Record) (now : Ts) (marks : List (LinkId × Ts)) (b : Barriers) (step : Step) → is_half graph node.0 ≡ true
-    → known_drops own ≡ [] → marks ≡ silent_marks graph.patience (ins_of graph node.0) (moments_of own) (quiet_calls own) now.0
-    → AreBarriers (ins_of graph node.0) (with_downed marks (moments_of own)) b
-    → step ≡ with_beacons (outs_of graph node.0) (record { be = b.be.0; commit = b.commit.0 }) (record (quiet_step Ok) { downed = marks })
+pub ticks : (graph : Graph) (node : NodeId) (own : List Record) (now : Ts) (marks : List (LinkId × Ts)) (tells : List Addressed) (b : Barriers) (step : Step)
+    → is_half graph node.0 ≡ true → known_drops own ≡ [] → IsNodeHistory graph node.0 own
+    → marks ≡ silent_marks graph.patience (ins_of graph node.0) (moments_of own) (quiet_calls own) now.0
+    → tells ≡ downs (ins_of graph node.0) (with_downed marks (moments_of own)) → AreBarriers (ins_of graph node.0) (with_downed marks (moments_of own)) b
+    → step ≡ with_beacons (outs_of graph node.0) (record { be = b.be.0; commit = b.commit.0 }) (record (quiet_step Ok) { downed = marks; control = tells })
     → IsNodeStep graph node.0 own (ticked node now step)
-ticks graph node own now marks b step half drops marks_are are step_is =
+ticks graph node own now marks tells b step half drops history marks_are tells_are are step_is =
     let f : Fields = record { be = b.be.0; commit = b.commit.0 } in
-    let s : Step = with_beacons (outs_of graph node.0) f (record (quiet_step Ok) { downed = marks }) in
+    let s : Step = with_beacons (outs_of graph node.0) f (record (quiet_step Ok) { downed = marks; control = tells }) in
     let r : Record = ticked node now s in
     let fields_is : fields graph node.0 own r ≡ f = fields_are graph node.0 own r (with_downed marks (moments_of own)) b half refl are in
     let drops_now : known_drops (r ∷ own) ≡ [] = ap (λ (ls : List LinkId). ls ++ []) drops in
@@ -148,5 +153,25 @@ ticks graph node own now marks b step half drops marks_are are step_is =
           ∙ ap (λ (ls : List LinkId). map (λ (l : LinkId). (l, beacon f)) (filter (λ (l : LinkId). not_dropped ls l.0) (outs_of graph node.0))) drops_now
           ∙ ap (map (λ (l : LinkId). (l, beacon f))) (no_drop (outs_of graph node.0)));
       unrouted_is = ap (lost (route graph (known_drops (r ∷ own)) node.0)) (sym nothing);
+      control_is = tells_are ∙ tells_marks graph node.0 own r history marks_are;
+    })
+
+-- a control message
+pub obeys : (graph : Graph) (node : NodeId) (own : List Record) (control : Control) (place : ℕ) (keep : Bool) (step : Step) → is_half graph node.0 ≡ true
+    → step ≡ record (quiet_step Ok) { downed = told_marks (ins_of graph node.0) (moments_of own) control } → IsNodeStep graph node.0 own (told node control place keep step)
+obeys graph node own control place keep step half step_is =
+    let s : Step = record (quiet_step Ok) { downed = told_marks (ins_of graph node.0) (moments_of own) control } in
+    let r : Record = told node control place keep s in
+    subst (λ (x : Step). IsNodeStep graph node.0 own (told node control place keep x)) (sym step_is)
+    (record {
+      outcome_is = refl;
+      downed_is = refl;
+      dropped_is = refl;
+      noted_is = refl;
+      stamped_is = refl;
+      fate_is = no_fate graph node.0 own r (no_host graph node.0 half);
+      logged_is = no_log graph node.0 own r (no_host graph node.0 half);
+      put_is = refl;
+      unrouted_is = refl;
       control_is = refl;
     })

@@ -1,5 +1,7 @@
 -- What a half of a switch keeps, and what it stands for.
 use Rattle.std.specs.Prelude.{◌≡◌, ℕ, if◌then◌else◌, Bool, true, List, [], ◌∷◌}
+use Rattle.pipe_base.specs.declared.control.Control.{Control}
+use Rattle.pipe_base.specs.declared.control.To.TheVariants.{Node}
 use Rattle.pipe_base.specs.declared.name.LinkId.{LinkId}
 use Rattle.pipe_base.specs.declared.name.NodeId.{NodeId}
 use Rattle.pipe_base.specs.declared.name.Ts.{Ts}
@@ -15,9 +17,9 @@ use Rattle.pipe_base.specs.Ways.{with_ways}
 use Rattle.pipe_barrier.specs.declared.registers.Barriers.{Barriers}
 use Rattle.pipe_barrier.specs.Registers.{AreBarriers}
 use Rattle.pipe_links.specs.Links as links
-use Rattle.pipe_model.specs.declared.event.Event.TheVariants.{Take, Tick}
+use Rattle.pipe_model.specs.declared.event.Event.TheVariants.{ControlTake, Take, Tick}
 use Rattle.pipe_model.specs.declared.record.Record.{Record}
-use Rattle.pipe_model.specs.declared.record.Took.TheVariants.{Nothing, Link}
+use Rattle.pipe_model.specs.declared.record.Took.TheVariants.{Nothing, Link, Message}
 use Rattle.pipe_model.specs.Got.{is_beacon}
 use Rattle.pipe_model.specs.Moments.{moments_of}
 use Rattle.pipe_model.specs.Run.{IsNodeStep}
@@ -35,6 +37,10 @@ taken link p place keep step = record { event = Take link place keep; took = Lin
 -- a node's clock read this
 abbrev pub ticked : NodeId → Ts → Step → Record
 ticked node now step = record { event = Tick node now; took = Nothing; step = step }
+
+-- a node was told this by a control message
+abbrev pub told : NodeId → Control → ℕ → Bool → Step → Record
+told node control place keep step = record { event = ControlTake place keep; took = Message (record { to = Node node; control = control }); step = step }
 
 -- the packets that a half owes for a packet that it received: a beacon goes no further
 abbrev pub passed_on : Barriers → Packet → List Packet

@@ -10,10 +10,13 @@ ghost use Rattle.pipe_model.specs.Acting.{ComesIn};
 ghost use Rattle.pipe_model.specs.Got.{is_beacon};
 ghost use Rattle.pipe_model.specs.Moments.{moments_of};
 ghost use Rattle.pipe_model.specs.Run.{IsNodeStep};
-ghost use Rattle.pipe_switch.specs.Half.{Does, IsPassing, Stands, taken, ticked};
+ghost use Rattle.pipe_switch.specs.Half.{Does, IsPassing, Stands, taken, ticked, told};
 
 use pipe_barrier::{Barriers, Registers};
-use pipe_base::{KeptStep, LinkId, NoMemory, NodeId, Outcome, Packet, PacketKind, Step, Ts};
+use pipe_base::{
+    Addressed, Control, KeptStep, LinkId, NoMemory, NodeId, Outcome, Packet, PacketKind, Step, To,
+    Ts,
+};
 use pipe_links::Links;
 use pipe_model::{Event, Record, Took};
 use pipe_topo::Topology;
@@ -75,25 +78,37 @@ impl Half {
     }
 
     /// Works out what a tick does. Nothing changes. Links that were silent for the patience go down, and a beacon with the
-    /// barriers after that is put on each link out of the half.
+    /// barriers after that is put on each link out of the half. The controller is told of each in-link that is down then.
     pub fn work_tick(&self, now: Ts) -> Result<KeptStep, NoMemory>
         ensures { IfOk result (λ step. (graph : Graph) (node : NodeId) (own : List ARecord) → Stands graph node.0 own self.now
             → IsNodeStep graph node.0 own (ticked node now step)) }
     {
         let mut step = Step::new(self.alloc);
         step.downed = self.links.silent_marks(self.alloc, now)?;
+        step.control = self.links.downs_with(self.alloc, &step.downed)?;
         let barriers = self.links.barriers_without(&step.downed)?;
         self.links
             .put_beacons(self.alloc, barriers.be, barriers.commit, &mut step)?;
         step.keep(self.alloc)
     }
 
-    /// Takes over a record of the half's own. Takes no memory.
-    pub fn follow(&mut self, record: &Record)
-        ensures { (graph : Graph) (node : ℕ) (own : List ARecord) → Stands graph node own self.old → ComesIn graph node «record».now.event
-            → IsNodeStep graph node own «record».now → Stands graph node («record».now ∷ own) self.new }
+    /// Works out what a control message to the half does. Nothing changes. A freeze takes its link down, where that is an
+    /// in-link that is up; any other message does nothing yet.
+    pub fn work_control(&self, control: &Control) -> Result<KeptStep, NoMemory>
+        ensures { IfOk result (λ step. (graph : Graph) (node : NodeId) (own : List ARecord) (place : ℕ) (keep : Bool) → Stands graph node.0 own self.now
+            → IsNodeStep graph node.0 own (told node control.now place keep step)) }
     {
-        self.links.follow(record);
+        let mut step = Step::new(self.alloc);
+        step.downed = self.links.told_marks(self.alloc, control)?;
+        step.keep(self.alloc)
+    }
+
+    /// Takes over a record of the half's own. Takes no memory.
+    pub fn follow(&mut self, made: &Record)
+        ensures { (graph : Graph) (node : ℕ) (own : List ARecord) → Stands graph node own self.old → ComesIn graph node made.now.event
+            → IsNodeStep graph node own made.now → Stands graph node (made.now ∷ own) self.new }
+    {
+        self.links.follow(made);
     }
 
     /// Takes a packet from a link into the half. The step is empty first, and after want of memory, which changes nothing.
@@ -131,6 +146,32 @@ impl Half {
             },
             step: self.work_tick(now)?,
             took: Took::Nothing,
+        };
+        self.links.follow(&record);
+        *step = record.step.into_step(self.alloc);
+        Ok(())
+    }
+
+    /// Takes a control message to the half. The step is empty first, and after want of memory, which changes nothing.
+    pub fn control(&mut self, control: Control, step: &mut Step) -> Result<(), NoMemory>
+        ensures ok { OnOk result ((graph : Graph) (node : NodeId) (own : List ARecord) (place : ℕ) (keep : Bool) → Stands graph node.0 own self.old
+            → Does graph node.0 own (told node control place keep step.new) self.new) }
+        ensures err { OnErr result ((self.new ≡ self.old) × (step.new ≡ quiet_step Outcome.Ok)) }
+    {
+        *step = Step::new(self.alloc);
+        let worked = self.work_control(&control)?;
+        let record = Record {
+            event: Event::ControlTake {
+                place: 0,
+                keep: false,
+            },
+            took: Took::Message {
+                addressed: Addressed {
+                    to: To::Node(self.links.node()),
+                    control,
+                },
+            },
+            step: worked,
         };
         self.links.follow(&record);
         *step = record.step.into_step(self.alloc);

@@ -1,4 +1,4 @@
-use Rattle.std.proofs.Common.{List, ◌∷◌, subst, sym, ◌∙◌}
+use Rattle.std.proofs.Common.{List, ◌∷◌, subst, sym}
 use Rattle.pipe_base.specs.declared.name.LinkId.{LinkId}
 use Rattle.pipe_base.specs.declared.name.Ts.{Ts}
 use Rattle.pipe_base.specs.Graph.{ins_of}
@@ -6,20 +6,27 @@ use Rattle.pipe_base.specs.Moment.{with_downed}
 use Rattle.pipe_base.specs.Silence.{Ticked}
 use Rattle.pipe_barrier.specs.InLinks.{Stands}
 use Rattle.pipe_model.specs.Moments.{moments_of, quiet_calls, received}
-use Rattle.pipe_links.proofs.Follows.{none_from, receipt_from, received_follows, tick_follows}
+use Rattle.pipe_links.proofs.Follows.{marks_follow, none_from, receipt_from, received_follows, tick_follows}
 use Rattle.pipe_links.proofs.links.follow.Goals as goal
 
 pub returns-in-Some : goal.returns-in-Some
 returns-in-Some c = λ graph node own stands comes step.
-    let r = c.args.«record».now in
+    let r = c.args.made.now in
     let found = receipt_from (received own r) c.in-Some.receipt (c.in-Some.ensures graph node own stands comes) in
     received_follows graph node own r found.0 c.in-Some.receipt c.receive.new.self step found.1 found.2
     (c.receive.ensures (ins_of graph node) graph.patience (moments_of own) (quiet_calls own) stands)
 
 pub returns-in-Some-tick_of : goal.returns-in-Some-tick_of
 returns-in-Some-tick_of c = λ graph node own stands comes step.
-    let r = c.args.«record».now in
+    let r = c.args.made.now in
     tick_follows graph node own r c.in-Some-tick_of.now c.tick.new.self step (none_from (received own r) (c.in-None.ensures graph node own stands comes))
     (sym c.in-Some-tick_of.ensures)
     (subst (λ (marks : List (LinkId × Ts)). Stands (ins_of graph node) graph.patience c.tick.new.self (with_downed marks (moments_of own)) (Ticked c.in-Some-tick_of.now.0 ∷ quiet_calls own))
     c.downed.ensures (c.tick.ensures (ins_of graph node) graph.patience (moments_of own) (quiet_calls own) stands))
+
+pub returns-in-None-tick_of : goal.returns-in-None-tick_of
+returns-in-None-tick_of c = λ graph node own stands comes step.
+    let r = c.args.made.now in
+    marks_follow graph node own r c.down.new.self step (none_from (received own r) (c.in-None.ensures graph node own stands comes)) c.in-None-tick_of.ensures
+    (subst (λ (marks : List (LinkId × Ts)). Stands (ins_of graph node) graph.patience c.down.new.self (with_downed marks (moments_of own)) (quiet_calls own))
+    c.downed-in-None-tick_of.ensures (c.down.ensures (ins_of graph node) graph.patience (moments_of own) (quiet_calls own) stands))

@@ -11,7 +11,7 @@ use Rattle.pipe_host.proofs.host.Host.follow.Goals as goal
 
 pub returns : goal.returns
 returns c = λ graph node own stands comes step.
-    let r : Record = c.args.«record».now in
+    let r : Record = c.args.made.now in
     let holds = stands.holds in
     let b = c.barriers.result in
     let after = c.follow.ensures graph node own holds.links_are comes step in

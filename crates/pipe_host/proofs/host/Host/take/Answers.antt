@@ -10,9 +10,10 @@ returns-clause-ok c = λ graph node own place keep stands comes.
     let works = c.in_ok-worked.ensures.ok graph node own 0 false stands comes in
     let after = c.follow.ensures graph node own works.stands comes works.rules in
     let links = after.links_are in
+    let rules = (c.in_ok-worked.ensures.ok graph node own place keep stands comes).rules in
     subst (λ (s : Step). Does graph node own (taken c.args.link c.args.packet place keep s) c.follow.new.self) (sym c.into_step.ensures)
     (record {
-      rules = (c.in_ok-worked.ensures.ok graph node own place keep stands comes).rules;
+      rules = rules;
       stands = record {
         host = after.host;
         links_are = record {
@@ -21,6 +22,7 @@ returns-clause-ok c = λ graph node own place keep stands comes.
           routes_are = links.routes_are;
           ins_are = links.ins_are;
           no_drops = links.no_drops;
+          history = (stands.links_are.history, rules);
         };
         next_is = after.next_is;
         held_are = after.held_are;

@@ -39,6 +39,7 @@ returns c =
     (λ kept is graph node own stands.
     let k = c.args.self.now in
     let marks = c.in_ok-step.field-0 in
+    let tells = c.in_ok-step-2.field-0 in
     let b = c.in_ok-barriers.barriers in
     let log : List (Service × Entry) = c.copy_passed.new.out in
     let n : ℕ = c.next-next.result.0 in
@@ -54,11 +55,11 @@ returns c =
     subst (λ (es : List (Service × Entry)). AreBelow (2 ^ 64 - 1) es → c.deliver.new.clock.next.0 ≡ max c.tick.new.self.next.0 (after_logged es)) c.as_slice.ensures c.deliver.ensures below in
     let told : n ≡ c.deliver.new.clock.next.0 = ap {B = ℕ} (λ (t : Ts). t.0) c.next-next.ensures in
     let clock_is : n ≡ next_after (next own) c.args.now.0 None log = omega (arith, delivered, told, c.tick.ensures, stands.next_is) in
-    let base : Step = record (quiet_step Ok) { downed = marks; logged = log } in
+    let base : Step = record (quiet_step Ok) { downed = marks; control = tells; logged = log } in
     let again : HostId → List Packet = λ host. resends calls host f in
     let resent : c.resends.new.step ≡ with_ways (route graph [] node.0) (again (record { 0 = node.0 })) base =
     c.in_ok-resends.ensures.stands calls stands.sender_is
-    ∙ ap (λ (s : Step). with_ways (picked c.routes-routes.result.now.links) (again src) (record s { downed = marks; logged = log })) c.new-step.ensures
+    ∙ ap (λ (s : Step). with_ways (picked c.routes-routes.result.now.links) (again src) (record s { downed = marks; control = tells; logged = log })) c.new-step.ensures
     ∙ ap (λ (routes : Routing). with_ways (picked routes.links) (again src) base) c.routes-routes.ensures
     ∙ ways_are graph node.0 k.links.routes (again src) base stands.links_are.routes_are
     ∙ ap (λ (host : HostId). with_ways (route graph [] node.0) (again host) base) src_is in
@@ -67,11 +68,11 @@ returns c =
     ∙ ap {B = Step} (λ (m : ℕ). with_beacons k.links.outs (record { be = n; commit = m }) c.resends.new.step) (c.promise-promise.ensures.stands calls stands.sender_is)
     ∙ ap (with_beacons k.links.outs f) resent in
     record {
-      rules = ticks graph node own c.args.now marks b n k kept stands
-          (c.in_ok-step.ensures graph node.0 own stands.links_are) (c.in_ok-barriers.ensures graph node.0 own stands.links_are)
+      rules = ticks graph node own c.args.now marks tells b n k kept stands
+          (c.in_ok-step.ensures graph node.0 own stands.links_are) (c.in_ok-step-2.ensures graph node.0 own stands.links_are) (c.in_ok-barriers.ensures graph node.0 own stands.links_are)
           (clock_is ∙ ap (next_after (next own) c.args.now.0 None) log_is) f (λ i. f)
           (step_is ∙ ap (λ (ls : List LinkId). with_beacons ls f (with_ways (route graph [] node.0) (again (record { 0 = node.0 })) base)) stands.links_are.outs_are
-          ∙ ap (λ (es : List (Service × Entry)). with_beacons (outs_of graph node.0) f (with_ways (route graph [] node.0) (again (record { 0 = node.0 })) (record (quiet_step Ok) { downed = marks; logged = es }))) log_is);
+          ∙ ap (λ (es : List (Service × Entry)). with_beacons (outs_of graph node.0) f (with_ways (route graph [] node.0) (again (record { 0 = node.0 })) (record (quiet_step Ok) { downed = marks; control = tells; logged = es }))) log_is);
       stands = record {
         holds = record {
           host = stands.host;

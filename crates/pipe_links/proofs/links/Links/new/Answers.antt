@@ -1,4 +1,4 @@
-use Rattle.std.proofs.Common.{◌≡◌, ℕ, List, Bool, [], false, replicate, length, refl, sym, subst, ap, ◌∙◌}
+use Rattle.std.proofs.Common.{◌≡◌, ℕ, List, Bool, [], false, replicate, length, refl, subst, ap, ◌∙◌}
 use Rattle.pipe_base.specs.declared.name.LinkId.{LinkId}
 use Rattle.pipe_barrier.specs.InLinks as in_links
 use Rattle.pipe_route.specs.Routing.{routing_by}
@@ -18,4 +18,5 @@ returns c =
           subst (λ (ins : List LinkId). in_links.Stands ins graph.patience c.in_ok-new.field-0 [] []) c.ins.ensures.value
           (subst (λ (n : ℕ). in_links.Stands c.ins.result.now n c.in_ok-new.field-0 [] []) c.patience.ensures c.in_ok-new.ensures);
       no_drops = refl;
+      history = tt;
     }

@@ -7,9 +7,10 @@ use Rattle.pipe_switch.proofs.half.Half.take.Goals as goal
 pub returns-clause-ok : goal.returns-clause-ok
 returns-clause-ok c = λ graph node own place keep stands comes.
     let after = c.follow.ensures graph node own stands.links_are comes (c.in_ok-work_take.ensures graph node own 0 false stands comes) in
+    let rules = c.in_ok-work_take.ensures graph node own place keep stands comes in
     subst (λ (s : Step). Does graph node own (taken c.args.link c.args.packet place keep s) (record c.args.self.now { links = c.follow.new.self })) (sym c.into_step.ensures)
     (record {
-      rules = c.in_ok-work_take.ensures graph node own place keep stands comes;
+      rules = rules;
       stands = record {
         half = stands.half;
         links_are = record {
@@ -18,6 +19,7 @@ returns-clause-ok c = λ graph node own place keep stands comes.
           routes_are = after.routes_are;
           ins_are = after.ins_are;
           no_drops = after.no_drops;
+          history = (stands.links_are.history, rules);
         };
       };
     })

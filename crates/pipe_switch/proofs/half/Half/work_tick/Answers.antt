@@ -18,13 +18,14 @@ pub returns : goal.returns
 returns c =
     let b = c.in_ok-barriers.barriers in
     let marks = c.in_ok-step.field-0 in
+    let tells = c.in_ok-step-2.field-0 in
     let f : Fields = record { be = b.be.0; commit = b.commit.0 } in
     IfOk-weaker c.keep.result (λ (kept : Step). kept ≡ c.put_beacons.new.step)
     (λ (kept : Step). (graph : Graph) (node : NodeId) (own : List Record) → Stands graph node.0 own c.args.self.now → IsNodeStep graph node.0 own (ticked node c.args.now kept))
     (λ kept is graph node own stands.
-    ticks graph node own c.args.now marks b kept stands.half stands.links_are.no_drops
-    (c.in_ok-step.ensures graph node.0 own stands.links_are) (c.in_ok-barriers.ensures graph node.0 own stands.links_are)
+    ticks graph node own c.args.now marks tells b kept stands.half stands.links_are.no_drops stands.links_are.history
+    (c.in_ok-step.ensures graph node.0 own stands.links_are) (c.in_ok-step-2.ensures graph node.0 own stands.links_are) (c.in_ok-barriers.ensures graph node.0 own stands.links_are)
     (is ∙ c.in_ok-put_beacons.ensures.ok
-    ∙ ap (λ (s : Step). with_beacons c.args.self.now.links.outs f (record s { downed = marks })) c.new-step.ensures
-    ∙ ap (λ (ls : List LinkId). with_beacons ls f (record (quiet_step Ok) { downed = marks })) stands.links_are.outs_are))
+    ∙ ap (λ (s : Step). with_beacons c.args.self.now.links.outs f (record s { downed = marks; control = tells })) c.new-step.ensures
+    ∙ ap (λ (ls : List LinkId). with_beacons ls f (record (quiet_step Ok) { downed = marks; control = tells })) stands.links_are.outs_are))
     c.keep.ensures

@@ -1,0 +1,32 @@
+use Rattle.std.proofs.Common.{◌≡◌, ◌∷◌, false, sym, subst, ◌∙◌}
+use Rattle.pipe_base.specs.declared.name.NodeId.{NodeId}
+use Rattle.pipe_base.specs.declared.step.Step.{Step}
+use Rattle.pipe_links.specs.Links as links
+use Rattle.pipe_model.specs.declared.record.Record.{Record}
+use Rattle.pipe_model.specs.Run.{IsNodeStep}
+use Rattle.pipe_switch.specs.Half.{Does, told}
+use Rattle.pipe_switch.proofs.half.Half.control.Goals as goal
+
+-- the place and what is kept make no difference to what the half keeps
+pub returns-clause-ok : goal.returns-clause-ok
+returns-clause-ok c = λ graph node own place keep stands.
+    let made : NodeId → Record = λ (n : NodeId). told n c.args.control 0 false c.in_ok-worked.worked in
+    let me_is : c.node.result ≡ node = c.node.ensures ∙ (λ i. record { 0 = stands.links_are.node_is i }) in
+    let rules = c.in_ok-worked.ensures graph node own place keep stands in
+    let follows = subst (λ (n : NodeId). links.Stands graph node.0 (made n ∷ own) c.follow.new.self) me_is
+    (c.follow.ensures graph node.0 own stands.links_are tt (subst (λ (n : NodeId). IsNodeStep graph node.0 own (made n)) (sym me_is) (c.in_ok-worked.ensures graph node own 0 false stands))) in
+    subst (λ (s : Step). Does graph node.0 own (told node c.args.control place keep s) (record c.args.self.now { links = c.follow.new.self })) (sym c.into_step.ensures)
+    (record {
+      rules = rules;
+      stands = record {
+        half = stands.half;
+        links_are = record {
+          node_is = follows.node_is;
+          outs_are = follows.outs_are;
+          routes_are = follows.routes_are;
+          ins_are = follows.ins_are;
+          no_drops = follows.no_drops;
+          history = (stands.links_are.history, rules);
+        };
+      };
+    })
