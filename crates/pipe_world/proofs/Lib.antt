@@ -1,3 +1,4 @@
+pub mod Messages
 pub mod Passing
 pub mod RunLaws
 pub mod StepPuts

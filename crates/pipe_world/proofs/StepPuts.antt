@@ -1,11 +1,12 @@
 -- What a node puts in a step: few items, on links of the graph.
 use Rattle.std.proofs.Common.{ℕ, zero, suc, ◌+◌, ◌*◌, ◌<◌, ◌≤◌, ◌==◌, ◌%◌, ◌&&◌, Bool, true, false, if◌then◌else◌, List, [], ◌∷◌, length, map, filter, Option, None, Some, sym, subst, ap, arith, length-append}
 use Rattle.std.specs.List.{All}
-use Rattle.std.specs.Prelude.{IfSome, slice_get}
+use Rattle.std.specs.Prelude.{IfSome, flat_map, slice_get}
 use Rattle.std.proofs.lemmas.List.{length-map}
 use Rattle.std.proofs.lemmas.List.Elements.{All-nil, All-cons, All-append, All-filter, All-head, All-map, All-tail}
 use Rattle.std.proofs.lemmas.List.FromFn.{length-map-range_with_len}
 use Rattle.std.proofs.lemmas.List.Sums.{count_by-le-length, length-filter}
+use Rattle.pipe_base.specs.declared.control.Addressed.{Addressed}
 use Rattle.pipe_base.specs.declared.message.Service.{Service}
 use Rattle.pipe_base.specs.declared.message.Service.TheVariants.{Reliable}
 use Rattle.pipe_base.specs.declared.name.HostId.{HostId}
@@ -14,7 +15,7 @@ use Rattle.pipe_base.specs.declared.name.Ts.{Ts}
 use Rattle.pipe_base.specs.declared.packet.Packet.{Packet}
 use Rattle.pipe_base.specs.declared.step.Fate.{Fate}
 use Rattle.pipe_base.specs.Fate.{is_holding}
-use Rattle.pipe_base.specs.Graph.{Graph, all_links, is_host, link_id, outs_of, tail_of}
+use Rattle.pipe_base.specs.Graph.{Graph, all_links, head_of, ins_of, is_host, link_id, outs_of, tail_of}
 use Rattle.pipe_base.specs.Limits.{most_receivers, most_unsettled}
 use Rattle.pipe_base.specs.Packets.{Fields, ack_to, beacon, forwarded, sent_to}
 use Rattle.pipe_base.specs.Resends.{resends}
@@ -23,10 +24,11 @@ use Rattle.pipe_base.specs.Ways.{on_way, routed}
 use Rattle.pipe_model.specs.declared.event.Event.{Event}
 use Rattle.pipe_model.specs.declared.event.Event.TheVariants.{Send, Tick, Take}
 use Rattle.pipe_model.specs.declared.record.Record.{Record}
-use Rattle.pipe_model.specs.Duties.{beacons, beacons_of, fields, owed, owed_by_half, owed_by_host, owed_by_send, owed_of}
+use Rattle.pipe_model.specs.Duties.{beacons, beacons_of, control_of, down_told, fields, owed, owed_by_half, owed_by_host, owed_by_send, owed_of}
 use Rattle.pipe_model.specs.Event.{IsOfGraph}
 use Rattle.pipe_model.specs.Got.{carries, gets, is_beacon}
 use Rattle.pipe_model.specs.Items.{items_in}
+use Rattle.pipe_model.specs.Marks.{mark}
 use Rattle.pipe_model.specs.Moments.{known_drops, received}
 use Rattle.pipe_model.specs.NeverLate.{AreOfGraph}
 use Rattle.pipe_model.specs.Run.{IsNodeHistory, IsNodeStep}
@@ -103,9 +105,30 @@ beacons_few : (graph : Graph) (node : ℕ) (dropped : List LinkId) (f : Fields) 
 beacons_few graph node dropped f (Tick n now) = tick_few graph node dropped f
 beacons_few graph node dropped f _ = omega arith
 
+told_few : (l : LinkId) (o : Option Ts) → length (down_told l o) ≤ 1
+told_few l None = omega arith
+told_few l (Some value) = omega arith
+
+flat_few : (f : LinkId → List Addressed) (ls : List LinkId) → ((l : LinkId) → length (f l) ≤ 1) → length (flat_map f ls) ≤ length ls
+flat_few f [] few = omega arith
+flat_few f (l ∷ ls) few = omega (arith, length-append (f l) (flat_map f ls), few l, flat_few f ls few)
+
+-- at most a report for each link
+tells_few : (graph : Graph) (node : ℕ) (own : List Record) (event : Event) → length (control_of graph node own event) ≤ length graph.links
+tells_few graph node own (Tick n now) =
+    let ins : List LinkId = filter (λ (l : LinkId). not_dropped (known_drops own) l.0) (ins_of graph node) in
+    omega (
+      arith,
+      flat_few (λ (l : LinkId). down_told l (mark own l.0)) ins (λ l. told_few l (mark own l.0)),
+      filter_few (λ (l : LinkId). not_dropped (known_drops own) l.0) (ins_of graph node),
+      filter_few (λ (l : LinkId). head_of graph l.0 == node) (all_links graph),
+      length-map-range_with_len link_id 0 (length graph.links),
+    )
+tells_few graph node own _ = omega arith
+
 -- after records that are owed, of events of the network, a step puts few items
 pub items_few : (graph : Graph) (node : ℕ) (own : List Record) (r : Record) → IsNodeHistory graph node own → AreOfGraph graph own → IsOfGraph graph r.event
-    → IsNodeStep graph node own r → items_in r ≤ most_resent + length graph.links
+    → IsNodeStep graph node own r → items_in r ≤ most_resent + length graph.links + length graph.links
 items_few graph node own r past known names step =
     let way : ℕ → ℕ → Option LinkId = route graph (known_drops (r ∷ own)) node in
     let f : Fields = fields graph node own r in
@@ -118,6 +141,7 @@ items_few graph node own r past known names step =
       owed_few graph node f own r r.event names
           (resends_few graph node (r ∷ own) (record { 0 = node }) f (past, step) (All-cons (λ (x : Record). IsOfGraph graph x.event) r own names known)),
       beacons_few graph node (known_drops (r ∷ own)) f r.event,
+      tells_few graph node (r ∷ own) r.event,
     )
 
 -- ---- on links of the graph
@@ -125,7 +149,7 @@ items_few graph node own r past known names step =
 abbrev Known : Graph → LinkId → Type 0
 Known graph l = l.0 < length graph.links
 
-got_all : (P : LinkId → Type 0) (ls : List LinkId) (n : ℕ) → All P ls → IfSome (slice_get ls n) P
+pub got_all : {A : Type 0} (P : A → Type 0) (ls : List A) (n : ℕ) → All P ls → IfSome (slice_get ls n) P
 got_all P [] n all = tt
 got_all P (l ∷ ls) zero all = All-head P l ls all
 got_all P (l ∷ ls) (suc n) all = got_all P ls n (All-tail P l ls all)

@@ -1,4 +1,5 @@
 pub mod History
 pub mod Node
 pub mod Queues
+pub mod Turn
 pub mod World

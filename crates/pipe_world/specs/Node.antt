@@ -1,14 +1,21 @@
 -- What is kept for a node: a host or a half, and what it stands for.
-use Rattle.std.specs.Prelude.{ℕ, List}
+use Rattle.std.specs.Prelude.{◌≡◌, ℕ, List}
+use Rattle.pipe_base.specs.declared.name.NodeId.{NodeId}
+use Rattle.pipe_base.specs.declared.step.Step.{Step}
 use Rattle.pipe_base.specs.Graph.{Graph}
 use Rattle.pipe_host.specs.Host as host
 use Rattle.pipe_model.specs.declared.event.Event.{Event}
+use Rattle.pipe_model.specs.declared.event.Event.TheVariants.{Crash}
 use Rattle.pipe_model.specs.declared.record.Record.{Record}
+use Rattle.pipe_model.specs.declared.record.Took.{Took}
+use Rattle.pipe_model.specs.declared.record.Took.TheVariants.{Nothing}
+use Rattle.pipe_model.specs.Acting.{own}
+use Rattle.pipe_model.specs.Outcome.{has_crashed}
 use Rattle.pipe_model.specs.Run.{IsNodeStep}
 use Rattle.pipe_switch.specs.Half as half
 use Rattle.pipe_world.specs.declared.node.Node.{Node}
 use Rattle.pipe_world.specs.declared.node.Node.TheVariants.{Host, Half}
-use Rattle.pipe_world.specs.declared.happen.Work.{Work}
+use Rattle.pipe_world.specs.declared.node.NodeState.{NodeState}
 
 -- it stands for the node's own records
 abbrev pub Stands : Graph → ℕ → List Record → Node → Type 0
@@ -20,9 +27,18 @@ abbrev pub StandsWith : Graph → ℕ → List Record → Record → Node → Ty
 StandsWith graph node own r (Host h) = host.StandsWith graph node own r h
 StandsWith graph node own r (Half h) = half.Stands graph node own h
 
--- the record of an event that was worked out
-abbrev pub record_of : Event → Work → Record
-record_of event w = record { event = event; took = w.took; step = w.step }
+-- what is kept of a node after a history: it stands for the node's own records, and says whether the node has crashed
+pub record StandsIn (graph : Graph) (node : ℕ) (past : List Record) (k : NodeState) : Type 0 where
+  pub node_stands : Stands graph node (own graph node past) k.node
+  pub crashed_is : k.crashed ≡ has_crashed node past
+
+-- the record of an event
+abbrev pub record_of : Event → Took → Step → Record
+record_of event took step = record { event = event; took = took; step = step }
+
+-- a node crashed
+abbrev pub crashed : NodeId → Step → Record
+crashed node step = record_of (Crash node) Nothing step
 
 -- The record is what the node owes, and the node is ready to follow it.
 pub record Works (graph : Graph) (node : ℕ) (own : List Record) (r : Record) (new : Node) : Type 0 where

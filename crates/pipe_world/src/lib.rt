@@ -7,8 +7,8 @@ mod fault;
 mod happen;
 mod history;
 mod node;
-mod queue;
-mod queues;
+mod puts;
+mod turn;
 mod world;
 
 pub use fault::StepFault;

@@ -4,13 +4,15 @@ ghost use Rattle.pipe_base.specs.declared.name.HostId.{HostId};
 ghost use Rattle.pipe_base.specs.Graph.{Graph, ins_of, is_host};
 ghost use Rattle.pipe_base.specs.Limits.{most_receivers};
 ghost use Rattle.pipe_base.specs.Moment.{has_link};
-ghost use Rattle.pipe_host.specs.Steps.{sent, taken, ticked};
+ghost use Rattle.pipe_host.specs.Steps.{sent, taken, ticked, told};
 ghost use Rattle.pipe_model.specs.declared.record.Record.{Record as ARecord};
 ghost use Rattle.pipe_model.specs.Acting.{ComesIn};
 ghost use Rattle.pipe_model.specs.Run.{IsNodeStep};
-ghost use Rattle.pipe_world.specs.Node.{Stands, StandsWith, Works};
+ghost use Rattle.pipe_world.specs.Node.{Stands, StandsWith, Works, crashed};
 
-use pipe_base::{DestList, KeptStep, LinkId, NoMemory, NodeId, Packet, Service, Ts};
+use pipe_base::{
+    Control, DestList, KeptStep, LinkId, NoMemory, NodeId, Outcome, Packet, Service, Ts,
+};
 use pipe_host::Host;
 use pipe_model::{Record, Took};
 use pipe_switch::Half;
@@ -20,6 +22,14 @@ use pipe_switch::Half;
 pub enum Node {
     Host(Host),
     Half(Half),
+}
+
+/// What a world keeps of a node.
+#[derive(Drop)]
+pub struct NodeState {
+    pub node: Node,
+    /// The node has crashed: it acts no more.
+    pub crashed: bool,
 }
 
 impl Node {
@@ -66,25 +76,44 @@ impl Node {
         }
     }
 
-    /// Takes over the record of a step that was worked out. Takes no memory.
-    pub fn follow(&mut self, record: &Record)
-        ensures { (graph : Graph) (node : ℕ) (own : List ARecord) → StandsWith graph node own «record».now self.old
-            → ComesIn graph node «record».now.event → IsNodeStep graph node own «record».now
-            → Stands graph node («record».now ∷ own) self.new }
+    /// Works out what a control message to the node does.
+    pub fn work_control(&self, control: &Control) -> Result<KeptStep, NoMemory>
+        ensures { IfOk result (λ step. (graph : Graph) (node : NodeId) (own : List ARecord) (place : ℕ) (keep : Bool) → Stands graph node.0 own self.now
+            → Works graph node.0 own (told node control.now place keep step) self.now) }
     {
         match self {
-            Node::Host(host) => host.follow(record),
-            Node::Half(half) => half.follow(record),
+            Node::Host(host) => host.work_control(control),
+            Node::Half(half) => half.work_control(control),
+        }
+    }
+
+    /// Works out a crash: the node does nothing in it.
+    pub fn work_crash(&self) -> KeptStep
+        ensures { (graph : Graph) (node : NodeId) (own : List ARecord) → Stands graph node.0 own self.now
+            → Works graph node.0 own (crashed node result) self.now }
+    {
+        KeptStep::quiet(Outcome::Ok)
+    }
+
+    /// Takes over the record of a step that was worked out. Takes no memory.
+    pub fn follow(&mut self, made: &Record)
+        ensures { (graph : Graph) (node : ℕ) (own : List ARecord) → StandsWith graph node own made.now self.old
+            → ComesIn graph node made.now.event → IsNodeStep graph node own made.now
+            → Stands graph node (made.now ∷ own) self.new }
+    {
+        match self {
+            Node::Host(host) => host.follow(made),
+            Node::Half(half) => half.follow(made),
         }
     }
 
     /// Gives back what was held or begun for a step that was worked out and is refused. Takes no memory.
-    pub fn undo(&mut self, record: &Record)
-        ensures { (graph : Graph) (node : ℕ) (own : List ARecord) → StandsWith graph node own «record».now self.old
-            → IsNodeStep graph node own «record».now → Stands graph node own self.new }
+    pub fn undo(&mut self, made: &Record)
+        ensures { (graph : Graph) (node : ℕ) (own : List ARecord) → StandsWith graph node own made.now self.old
+            → IsNodeStep graph node own made.now → Stands graph node own self.new }
     {
         if let Node::Host(host) = self {
-            host.undo(record);
+            host.undo(made);
         }
     }
 }

@@ -1,5 +1,5 @@
 // The world: a network, what its nodes keep, what waits, and all that happened.
-ghost use Rattle.std.specs.Prelude.{◌≡◌, ◌<◌, ◌≤◌, ℕ, List, [], true, IfErr, IfOk, OnOk, OnErr, length, min, reverse, slice_index_or};
+ghost use Rattle.std.specs.Prelude.{◌≡◌, ◌<◌, ◌≤◌, ℕ, List, [], true, IfErr, IfOk, OnOk, OnErr, length, reverse, slice_index_or};
 ghost use Rattle.pipe_model.specs.Event.{IsOfGraph, IsBuilt};
 ghost use Rattle.pipe_base.specs.Graph.{Graph, IsGraph, is_half};
 ghost use Rattle.pipe_base.specs.Limits.{most_items};
@@ -9,9 +9,10 @@ ghost use Rattle.pipe_model.specs.Items.{Overfills, items_of};
 ghost use Rattle.pipe_model.specs.LateMessage.{IsNoneLateOfItself};
 ghost use Rattle.pipe_model.specs.NeverLate.{AreLinksOrdered, IsNeverLate};
 ghost use Rattle.pipe_model.specs.Order.{AreLogsOrdered, AreStampsCausal, IsGenuine};
+ghost use Rattle.pipe_model.specs.Outcome.{has_crashed};
 ghost use Rattle.pipe_model.specs.Run.{IsHistory};
-ghost use Rattle.pipe_model.specs.Waiting.{waiting_on};
-ghost use Rattle.pipe_world.specs.declared.node.Node.{Node};
+ghost use Rattle.pipe_model.specs.Waiting.{waiting_control, waiting_on};
+ghost use Rattle.pipe_world.specs.declared.node.NodeState.{NodeState};
 ghost use Rattle.pipe_model.specs.declared.record.Record.{Record};
 ghost use Rattle.pipe_model.specs.Acting.{own};
 ghost use Rattle.pipe_host.specs.Host as hosts;
@@ -22,12 +23,11 @@ ghost use Rattle.pipe_world.specs.World.{Extends, HasHalf, HasHost};
 use crate::fault::StepFault;
 use crate::happen::happen;
 use crate::history::History;
-use crate::node::Node;
-use crate::queue::Queue;
-use crate::queues::empty_queues;
+use crate::node::{Node, NodeState};
 use pipe_base::{HostId, LinkId, NoMemory, NodeId};
 use pipe_host::Host;
 use pipe_model::{Event, Trace};
+use pipe_net::Queues;
 use pipe_switch::Half;
 use pipe_topo::Topology;
 use std::alloc::Global;
@@ -37,8 +37,8 @@ use std::marker::Model;
 #[derive(Drop)]
 pub struct World {
     topology: Topology,
-    nodes: Vec<Node>,
-    queues: Vec<Queue>,
+    nodes: Vec<NodeState>,
+    queues: Queues,
     history: History,
 }
 
@@ -49,7 +49,7 @@ impl Model for World {
 
     ghost view = { λ w. record { graph = w.topology; trace = w.history } };
 
-    ghost invariant = { λ w. Stands w.topology w.nodes.items w.queues.items w.history };
+    ghost invariant = { λ w. Stands w.topology w.nodes.items w.queues w.history };
 }
 
 impl World {
@@ -58,7 +58,7 @@ impl World {
         ensures { IfOk result (λ world. world ≡ record { graph = topology; trace = [] }) }
     {
         let nodes = fresh_nodes(alloc, &topology)?;
-        let queues = empty_queues(alloc, topology.links())?;
+        let queues = Queues::new(alloc, topology.links())?;
         Ok(World {
             topology,
             nodes,
@@ -147,51 +147,63 @@ impl World {
         self.history.items()
     }
 
-    /// How many packets wait on a link, at most 2^32 - 1.
+    /// How many packets wait on a link.
     pub fn waiting(&self, link: LinkId) -> u32
         requires { link.0 < length self.now.graph.links }
-        ensures { result ≡ min (length (waiting_on link.0 (reverse self.now.trace))) 4294967295 }
+        ensures { result ≡ length (waiting_on link.0 (reverse self.now.trace)) }
     {
-        waiting_in(&self.queues, link)
+        self.queues.waiting(link)
+    }
+
+    /// How many control messages wait.
+    pub fn waiting_control(&self) -> u32
+        ensures { result ≡ length (waiting_control (reverse self.now.trace)) }
+    {
+        self.queues.waiting_control()
+    }
+
+    /// The node has crashed: nothing happens at it any more.
+    pub fn crashed(&self, node: NodeId) -> bool
+        requires { node.0 < self.now.graph.nodes }
+        ensures { result ≡ has_crashed node.0 (reverse self.now.trace) }
+    {
+        self.nodes[usize::from(node.0)].crashed
     }
 }
 
-fn host_in(nodes: &[Node], host: HostId) -> &Host
+fn host_in(nodes: &[NodeState], host: HostId) -> &Host
     requires { (graph : Graph) × (past : List Record) × HasHost graph nodes.now past host.0 }
     ensures { (graph : Graph) (past : List Record) → HasHost graph nodes.now past host.0 → hosts.Stands graph host.0 (own graph host.0 past) result.now }
 {
-    match &nodes[usize::from(host.0)] {
+    match &nodes[usize::from(host.0)].node {
         Node::Host(host) => host,
         Node::Half(_) => unreachable!(),
     }
 }
 
-fn half_in(nodes: &[Node], node: NodeId) -> &Half
+fn half_in(nodes: &[NodeState], node: NodeId) -> &Half
     requires { (graph : Graph) × (past : List Record) × HasHalf graph nodes.now past node.0 }
     ensures { (graph : Graph) (past : List Record) → HasHalf graph nodes.now past node.0 → halves.Stands graph node.0 (own graph node.0 past) result.now }
 {
-    match &nodes[usize::from(node.0)] {
+    match &nodes[usize::from(node.0)].node {
         Node::Host(_) => unreachable!(),
         Node::Half(half) => half,
     }
 }
 
-fn waiting_in(queues: &[Queue], link: LinkId) -> u32
-    requires { link.0 < length queues.now }
-    ensures { result ≡ min (length (slice_index_or queues.now link.0 [])) 4294967295 }
-{
-    queues[link.0 as usize].len().min(4294967295) as u32
-}
-
 /// A node with its in-links for each number, to which nothing has happened.
-fn fresh_nodes(alloc: Global, topology: &Topology) -> Result<Vec<Node>, NoMemory>
+fn fresh_nodes(alloc: Global, topology: &Topology) -> Result<Vec<NodeState>, NoMemory>
     ensures graph { OnOk result (IsGraph topology.now) }
     ensures count { IfOk result (λ nodes. length nodes.items ≡ topology.now.nodes) }
-    ensures stand { IfOk result (λ nodes. (n : ℕ) (d : Node) → n < topology.now.nodes → node.Stands topology.now n [] (slice_index_or nodes.items n d)) }
+    ensures stand { IfOk result (λ nodes. (n : ℕ) (d : NodeState) → n < topology.now.nodes → node.StandsIn topology.now n [] (slice_index_or nodes.items n d)) }
 {
     let mut nodes = Vec::new(alloc);
     'nodes: for id in 0..topology.nodes() {
-        nodes.push(fresh_node(alloc, topology, id)?)?;
+        let node = fresh_node(alloc, topology, id)?;
+        nodes.push(NodeState {
+            node,
+            crashed: false,
+        })?;
     }
     Ok(nodes)
 }

@@ -3,7 +3,7 @@ use Rattle.pipe_base.specs.Graph.{Graph, is_half}
 use Rattle.pipe_switch.specs.Half as halves
 use Rattle.pipe_model.specs.declared.record.Record.{Record}
 use Rattle.pipe_model.specs.Acting.{own}
-use Rattle.pipe_world.specs.declared.node.Node.{Node}
+use Rattle.pipe_world.specs.declared.node.NodeState.{NodeState}
 use Rattle.pipe_world.specs.World.{GraphAndTrace, HasHalf}
 use Rattle.pipe_world.proofs.WorldSteps.{has_half}
 use Rattle.pipe_world.proofs.world.World.half.Goals as goal
@@ -15,8 +15,8 @@ half_in-requires c =
     let known : c.args.node.0 < graph.nodes = subst (λ (v : GraphAndTrace). c.args.node.0 < v.graph.nodes) (sym c.self.view_is) c.requires.node in
     let is : is_half graph c.args.node.0 ≡ true = subst (λ (v : GraphAndTrace). is_half v.graph c.args.node.0 ≡ true) (sym c.self.view_is) c.requires.half in
     let has : HasHalf graph c.deref.result.now past c.args.node.0 =
-    subst (λ (ns : List Node). HasHalf graph ns past c.args.node.0) (sym c.deref.ensures.value)
-    (has_half graph c.self.inside.nodes.items c.self.inside.queues.items past c.args.node.0 c.self.invariant known is) in
+    subst (λ (ns : List NodeState). HasHalf graph ns past c.args.node.0) (sym c.deref.ensures.value)
+    (has_half graph c.self.inside.nodes.items c.self.inside.queues past c.args.node.0 c.self.invariant known is) in
     (graph, past, has)
 
 pub returns : goal.returns
@@ -26,7 +26,7 @@ returns c =
     let known : c.args.node.0 < graph.nodes = subst (λ (v : GraphAndTrace). c.args.node.0 < v.graph.nodes) (sym c.self.view_is) c.requires.node in
     let is : is_half graph c.args.node.0 ≡ true = subst (λ (v : GraphAndTrace). is_half v.graph c.args.node.0 ≡ true) (sym c.self.view_is) c.requires.half in
     let has : HasHalf graph c.deref.result.now past c.args.node.0 =
-    subst (λ (ns : List Node). HasHalf graph ns past c.args.node.0) (sym c.deref.ensures.value)
-    (has_half graph c.self.inside.nodes.items c.self.inside.queues.items past c.args.node.0 c.self.invariant known is) in
+    subst (λ (ns : List NodeState). HasHalf graph ns past c.args.node.0) (sym c.deref.ensures.value)
+    (has_half graph c.self.inside.nodes.items c.self.inside.queues past c.args.node.0 c.self.invariant known is) in
     subst (λ (v : GraphAndTrace). halves.Stands v.graph c.args.node.0 (own v.graph c.args.node.0 (reverse v.trace)) c.half_in.result.now) c.self.view_is
     (c.half_in.ensures graph past has)

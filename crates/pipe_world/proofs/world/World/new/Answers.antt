@@ -1,27 +1,26 @@
-use Rattle.std.proofs.Common.{List, reverse, refl, sym, subst, ap, ◌∙◌, arith}
+use Rattle.std.proofs.Common.{List, [], reverse, sym, subst, ap, arith}
 use Rattle.std.proofs.lemmas.List.Elements.{All-nil}
 use Rattle.pipe_base.specs.Graph.{Graph}
 use Rattle.pipe_base.specs.Reach.{JoinsAllHosts}
 use Rattle.pipe_model.specs.declared.record.Record.{Record}
 use Rattle.pipe_model.specs.Event.{IsOfGraph}
+use Rattle.pipe_net.specs.Waits.{Waits}
+use Rattle.pipe_world.specs.Queues.{Stand}
 use Rattle.pipe_world.specs.World.{Keeps}
+use Rattle.pipe_world.proofs.WaitingLists.{nothing_waits}
 use Rattle.pipe_world.proofs.world.World.new.Goals as goal
 
 pub invariant_of-result : goal.invariant_of-result
 invariant_of-result c =
     let graph : Graph = c.args.topology in
-    subst (λ (past : List Record). Keeps graph c.in_ok-nodes.nodes.items c.in_ok-queues.queues.items past) (ap reverse (sym c.new.ensures))
+    subst (λ (past : List Record). Keeps graph c.in_ok-nodes.nodes.items c.in_ok-queues.queues past) (ap reverse (sym c.new-2.ensures))
     (record {
       is_graph = c.in_ok-nodes.ensures.graph;
       joined = subst JoinsAllHosts c.topology.view_is c.topology.invariant;
       few_links = omega (arith, c.links.ensures.value, c.links.ensures.few);
       count = c.in_ok-nodes.ensures.count;
       nodes_are = c.in_ok-nodes.ensures.stand;
-      queues_are = record {
-        count = c.in_ok-queues.ensures.count ∙ c.links.ensures.value;
-        whole = λ link. refl;
-        lists_are = λ link lt. c.in_ok-queues.ensures.empty link;
-      };
+      queues_are = subst (λ (w : Waits). Stand graph w []) (sym c.in_ok-queues.ensures) (nothing_waits graph c.links.result c.links.ensures.value);
       rules = tt;
       names = All-nil (λ (r : Record). IsOfGraph graph r.event);
     })

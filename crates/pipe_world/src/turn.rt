@@ -1,0 +1,137 @@
+// Whose turn it is in an event: a node acts, or no node does anything.
+ghost use Rattle.std.specs.Prelude.{◌≡◌, ◌<◌, List, IfOk, IfSome, MatchOption, length, true};
+ghost use Rattle.pipe_base.specs.Graph.{Graph, IsGraph};
+ghost use Rattle.pipe_model.specs.declared.record.Record.{Record};
+ghost use Rattle.pipe_model.specs.Event.{IsOfGraph, IsBuilt};
+ghost use Rattle.pipe_world.specs.Turn.{ActsAt, IsItem, IsMessage, IsOfNobody, IsToController, IsToNode, IsTurn, ReachesKnown, is_there, taken_of};
+ghost use Rattle.pipe_world.specs.World.{Keeps};
+
+use crate::node::NodeState;
+use pipe_base::{NoMemory, NodeId, Outcome, To};
+use pipe_model::{Event, Took};
+use pipe_net::Queues;
+use pipe_topo::Topology;
+
+/// What becomes of an event.
+#[derive(Drop)]
+pub enum Turn {
+    /// No node does anything.
+    Passes { took: Took, outcome: Outcome },
+    /// The node acts, and takes this.
+    Acts { id: NodeId, took: Took },
+}
+
+/// Whose turn it is: nobody's where nothing waits at the place of the event, where the acting node has crashed, and where no
+/// node acts. What is taken stays where it waits.
+pub fn whose_turn(
+    topology: &Topology,
+    nodes: &[NodeState],
+    queues: &mut Queues,
+    event: &Event,
+) -> Result<Turn, NoMemory>
+    requires keeps { (past : List Record) × Keeps topology.now nodes.now queues.old past }
+    requires event { IsOfGraph topology.now event.now }
+    requires built { IsBuilt event.now }
+    ensures turn { IfOk result (λ turn. IsTurn topology.now nodes.now queues.old event.now turn) }
+    ensures same { queues.new ≡ queues.old }
+{
+    if !is_there(queues, event) {
+        return Ok(idle(Outcome::NoItem));
+    }
+    let took = item(queues, event)?;
+    match acting_node(topology, event, &took) {
+        None => Ok(Turn::Passes {
+            took,
+            outcome: Outcome::Ok,
+        }),
+        Some(id) if nodes[id.0 as usize].crashed => Ok(idle(Outcome::Crashed)),
+        Some(id) => Ok(Turn::Acts { id, took }),
+    }
+}
+
+/// Nothing happens.
+fn idle(outcome: Outcome) -> Turn
+    ensures { result ≡ Turn.Passes Took.Nothing outcome }
+{
+    Turn::Passes {
+        took: Took::Nothing,
+        outcome,
+    }
+}
+
+/// Something waits at the place that the event names, if it names one.
+fn is_there(queues: &Queues, event: &Event) -> bool
+    requires { (graph : Graph) × (length queues.now.lines ≡ length graph.links) × IsOfGraph graph event.now }
+    ensures { result ≡ is_there queues.now event.now }
+{
+    match event {
+        Event::Take { link, place, .. } | Event::Lose { link, place } => {
+            *place < queues.waiting(*link)
+        }
+        Event::ControlTake { place, .. } | Event::ControlLose { place } => {
+            *place < queues.waiting_control()
+        }
+        _ => true,
+    }
+}
+
+/// A copy of what the event takes.
+fn item(queues: &mut Queues, event: &Event) -> Result<Took, NoMemory>
+    requires links { (graph : Graph) × (length queues.old.lines ≡ length graph.links) × IsOfGraph graph event.now }
+    requires there { is_there queues.old event.now ≡ true }
+    ensures took { IfOk result (λ took. took ≡ taken_of queues.old event.now) }
+    ensures item { IfOk result (IsItem event.now) }
+    ensures same { queues.new ≡ queues.old }
+{
+    match event {
+        Event::Take { link, place, .. } => {
+            let Some(packet) = queues.take(*link, *place, true)? else {
+                unreachable!()
+            };
+            Ok(Took::Link {
+                link: *link,
+                packet,
+            })
+        }
+        Event::ControlTake { place, .. } => {
+            let Some(addressed) = queues.take_control(*place, true)? else {
+                unreachable!()
+            };
+            Ok(Took::Message { addressed })
+        }
+        _ => Ok(Took::Nothing),
+    }
+}
+
+/// The node that acts in an event, or None where nobody does.
+fn acting_node(topology: &Topology, event: &Event, took: &Took) -> Option<NodeId>
+    requires graph { IsGraph topology.now }
+    requires event { IsOfGraph topology.now event.now }
+    requires built { IsBuilt event.now }
+    requires item { IsItem event.now took.now }
+    requires known { ReachesKnown topology.now took.now }
+    ensures acts { MatchOption result (IsOfNobody event.now took.now) (λ id. ActsAt topology.now id event.now took.now) }
+    ensures known { IfSome result (λ id. id.0 < topology.now.nodes) }
+{
+    match event {
+        Event::Send { host, .. } => Some(NodeId(host.0)),
+        Event::Tick { node, .. } | Event::Crash { node } => Some(*node),
+        Event::Take { link, .. } => Some(topology.head(*link)),
+        Event::ControlTake { .. } => receiver(took),
+        _ => None,
+    }
+}
+
+/// The node that a control message reaches, None where it goes to the controller.
+fn receiver(took: &Took) -> Option<NodeId>
+    requires { IsMessage took.now }
+    ensures { MatchOption result (IsToController took.now) (λ id. IsToNode id took.now) }
+{
+    let Took::Message { addressed } = took else {
+        unreachable!()
+    };
+    match addressed.to {
+        To::Node(node) => Some(node),
+        To::Controller => None,
+    }
+}
