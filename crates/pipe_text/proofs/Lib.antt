@@ -2,3 +2,4 @@ pub mod DecimalLaws
 pub mod BodyLaws
 pub mod NumberLaws
 pub mod LineLaws
+pub mod PlainLaws

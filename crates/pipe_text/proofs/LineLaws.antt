@@ -13,7 +13,7 @@ abbrev is_feed : ℕ → Bool
 is_feed byte = byte == 10
 
 -- a part before a line feed is a line
-before_feed : (part : List ℕ) (parts : List (List ℕ)) → 0 < length parts
+pub before_feed : (part : List ℕ) (parts : List (List ℕ)) → 0 < length parts
     → lines_of_parts (part ∷ parts) ≡ strip_carriage_return part ∷ lines_of_parts parts
 before_feed part [] some = absurd (omega arith)
 before_feed part (next ∷ parts) some = refl

@@ -8,7 +8,7 @@ ghost use Rattle.pipe_text_input.specs.Content.{content_of, divided, planned};
 ghost use Rattle.pipe_text_input.specs.Read.{IsRead};
 
 use crate::{Input, InputFault};
-use pipe_text_plan::{Parts, PlanError, PlanFault, PlanInput, lines_read, parts_of, read_plan};
+use pipe_text_plan::{Parts, PlanError, PlanFault, PlanInput, lines_above, parts_of, read_plan};
 use pipe_text_schedule::{ScheduleFault, read_schedule};
 use std::alloc::Global;
 
@@ -32,8 +32,7 @@ fn read_parts(alloc: Global, parts: &Parts<'_>) -> Result<Input, InputFault>
     ensures ok { IfOk result (IsRead (divided (Some (division_view parts.now)))) }
     ensures fault { IfErr result (λ fault. fault ≢ InputFault.NoMemory → divided (Some (division_view parts.now)) ≡ Err fault) }
 {
-    let count = lines_read(parts.rest);
-    if count > EVENT_LIMIT {
+    if let Some(count) = lines_above(parts.rest, EVENT_LIMIT) {
         return Err(InputFault::TooManyEvents { count });
     }
     match read_plan(alloc, parts) {

@@ -7,3 +7,4 @@ pub mod StarLaws
 pub mod NameLaws
 pub mod DescribeLaws
 pub mod PlanLaws
+pub mod CountLaws

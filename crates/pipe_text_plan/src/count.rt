@@ -1,5 +1,5 @@
 // How many lines of a text are read.
-ghost use Rattle.std.specs.Prelude.{◌≡◌, ◌≤◌, ◌<◌, ◌^◌, length};
+ghost use Rattle.std.specs.Prelude.{◌≡◌, ◌==◌, ◌≤◌, ◌<◌, ◌^◌, length, count_by, IfSome, IfNone};
 ghost use Rattle.pipe_text_plan.specs.Counted.{is_read, lines_read};
 
 use crate::word::first_word;
@@ -18,6 +18,30 @@ pub fn lines_read(text: &[u8]) -> u32
             count += 1;
         }
         rest = after;
+    }
+    count
+}
+
+/// The number of lines that are not skipped, where it is above `most`. Mostly the line feeds alone tell that it is not.
+pub fn lines_above(text: &[u8], most: u32) -> Option<u32>
+    requires { length text.now < 2 ^ 31 }
+    ensures some { IfSome result (λ count. (count ≡ lines_read text.now) × (most < count)) }
+    ensures none { IfNone result (lines_read text.now ≤ most) }
+{
+    if line_feeds(text) < most {
+        return None;
+    }
+    let count = lines_read(text);
+    if count > most { Some(count) } else { None }
+}
+
+fn line_feeds(text: &[u8]) -> u32
+    requires { length text.now < 2 ^ 31 }
+    ensures { result ≡ count_by (λ byte. byte == 10) text.now }
+{
+    let mut count = 0;
+    for byte in text {
+        count += u32::from(*byte == b'\n');
     }
     count
 }

@@ -19,7 +19,7 @@ mod star;
 mod switch;
 mod word;
 
-pub use count::lines_read;
+pub use count::{lines_above, lines_read};
 pub use division::{Parts, parts_of};
 pub use fault::{KeyName, PlanError, PlanFault};
 pub use laws::described_plans_have_no_fault;

@@ -18,6 +18,8 @@ use Rattle.pipe_text.specs.Body.{body_of}
 use Rattle.pipe_text.specs.Number.{number_of}
 use Rattle.pipe_text.specs.Words.{words_of, is_skipped}
 use Rattle.pipe_text.proofs.NumberLaws.{number_within}
+use Rattle.pipe_text_schedule.specs.Control.{control_line, control_lose_from, control_lose_line, control_take_from, control_take_line}
+use Rattle.pipe_text_schedule.specs.Failure.{crash_from, crash_line, cut_from, cut_line}
 use Rattle.pipe_text_schedule.specs.Line.{CanHappen, line_event}
 use Rattle.pipe_text_schedule.specs.Named.{below, name_in, host_in, half_of, half_at, half_split, half_in, node_in, link_in}
 use Rattle.pipe_text_schedule.specs.Receivers.{is_named, receiver_from, receiver_split, receiver_in, if_read, receivers_in}
@@ -98,6 +100,57 @@ lose_line_happens graph [] = tt
 lose_line_happens graph (link ∷ []) = tt
 lose_line_happens graph (link ∷ place ∷ []) = lose_happens graph (link_in graph link) (place_of place) (link_known graph link)
 lose_line_happens graph (link ∷ place ∷ other ∷ words) = tt
+
+-- control messages
+
+control_take_happens : (graph : Graph) (place : Option ℕ) (keep : Option Bool) → IfOk (control_take_from place keep) (CanHappen graph)
+control_take_happens graph None keep = tt
+control_take_happens graph (Some place) None = tt
+control_take_happens graph (Some place) (Some keep) = record { known = tt; built = tt }
+
+control_lose_happens : (graph : Graph) (place : Option ℕ) → IfOk (control_lose_from place) (CanHappen graph)
+control_lose_happens graph None = tt
+control_lose_happens graph (Some place) = record { known = tt; built = tt }
+
+control_take_line_happens : (graph : Graph) (words : List (List ℕ)) → IfOk (control_take_line words) (CanHappen graph)
+control_take_line_happens graph [] = tt
+control_take_line_happens graph (place ∷ []) = control_take_happens graph (place_of place) (Some false)
+control_take_line_happens graph (place ∷ keep ∷ []) = control_take_happens graph (place_of place) (keep_of keep)
+control_take_line_happens graph (place ∷ keep ∷ other ∷ words) = tt
+
+control_lose_line_happens : (graph : Graph) (words : List (List ℕ)) → IfOk (control_lose_line words) (CanHappen graph)
+control_lose_line_happens graph [] = tt
+control_lose_line_happens graph (place ∷ []) = control_lose_happens graph (place_of place)
+control_lose_line_happens graph (place ∷ other ∷ words) = tt
+
+control_line_happens : (graph : Graph) (words : List (List ℕ)) → IfOk (control_line words) (CanHappen graph)
+control_line_happens graph [] = tt
+control_line_happens graph (verb ∷ words) = pick (bytes_eq verb (codes "take")) (bytes_eq verb (codes "lose"))
+  where
+    pick : (take lose : Bool) → IfOk (if take then control_take_line words else if lose then control_lose_line words else Err kind.Verb) (CanHappen graph)
+    pick true lose = control_take_line_happens graph words
+    pick false true = control_lose_line_happens graph words
+    pick false false = tt
+
+-- crashes and cuts
+
+crash_happens : (graph : Graph) (node : Option ℕ) → IfSome node (λ n. n < graph.nodes) → IfOk (crash_from node) (CanHappen graph)
+crash_happens graph None known = tt
+crash_happens graph (Some node) known = record { known = known; built = tt }
+
+crash_line_happens : (graph : Graph) (names words : List (List ℕ)) → IsGraph graph → IfOk (crash_line graph names words) (CanHappen graph)
+crash_line_happens graph names [] is = tt
+crash_line_happens graph names (node ∷ []) is = crash_happens graph (node_in graph names node) (node_known graph names node is)
+crash_line_happens graph names (node ∷ other ∷ words) is = tt
+
+cut_happens : (graph : Graph) (link : Option ℕ) → IfSome link (λ n. n < length graph.links) → IfOk (cut_from link) (CanHappen graph)
+cut_happens graph None known = tt
+cut_happens graph (Some link) known = record { known = known; built = tt }
+
+cut_line_happens : (graph : Graph) (words : List (List ℕ)) → IfOk (cut_line graph words) (CanHappen graph)
+cut_line_happens graph [] = tt
+cut_line_happens graph (link ∷ []) = cut_happens graph (link_in graph link) (link_known graph link)
+cut_line_happens graph (link ∷ other ∷ words) = tt
 
 -- receivers
 
@@ -197,15 +250,20 @@ line_happens : (graph : Graph) (names words : List (List ℕ)) → IsGraph graph
 line_happens graph names [] is = tt
 line_happens graph names (verb ∷ words) is =
     pick (bytes_eq verb (codes "send")) (bytes_eq verb (codes "tick")) (bytes_eq verb (codes "take")) (bytes_eq verb (codes "lose"))
+    (bytes_eq verb (codes "control")) (bytes_eq verb (codes "crash")) (bytes_eq verb (codes "cut"))
   where
-    pick : (send tick take lose : Bool)
+    pick : (send tick take lose control crash cut : Bool)
         → IfOk (if send then send_line graph names words else if tick then tick_line graph names words else if take then take_line graph words
-        else if lose then lose_line graph words else Err kind.Verb) (CanHappen graph)
-    pick true tick take lose = send_line_happens graph names words
-    pick false true take lose = tick_line_happens graph names words is
-    pick false false true lose = take_line_happens graph words
-    pick false false false true = lose_line_happens graph words
-    pick false false false false = tt
+        else if lose then lose_line graph words else if control then control_line words else if crash then crash_line graph names words
+        else if cut then cut_line graph words else Err kind.Verb) (CanHappen graph)
+    pick true tick take lose control crash cut = send_line_happens graph names words
+    pick false true take lose control crash cut = tick_line_happens graph names words is
+    pick false false true lose control crash cut = take_line_happens graph words
+    pick false false false true control crash cut = lose_line_happens graph words
+    pick false false false false true crash cut = control_line_happens graph words
+    pick false false false false false true cut = crash_line_happens graph names words is
+    pick false false false false false false true = cut_line_happens graph words
+    pick false false false false false false false = tt
 
 onto_happens : (graph : Graph) (at : ℕ) (first : Result Event LineKind) (rest : Result (List Event) (ℕ × LineKind)) → IfOk first (CanHappen graph)
     → IfOk rest (All (CanHappen graph)) → IfOk (event_onto at first rest) (All (CanHappen graph))

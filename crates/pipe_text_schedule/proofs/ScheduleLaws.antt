@@ -50,18 +50,30 @@ schedule_event graph names before now event at text line rest all split is read 
     ∙ ap (λ ls. after_events before (schedule_of graph names at ls)) (sym split)
     ∙ so_far
 
--- one line more, whose event there is unless it is skipped
+-- one line more with these words, whose event there is unless it is skipped
 pub schedule_more : (graph : Graph) (names : List (List ℕ)) (before now : List Event) (event : Option Event) (at : ℕ) (text line rest : List ℕ)
-    (all : Result (List Event) (ℕ × LineKind))
-    → lines text ≡ line ∷ lines rest → IfNone event (is_skipped (words_of line) ≡ true)
-    → IfSome event (λ e. (is_skipped (words_of line) ≡ false) × (line_event graph names (words_of line) ≡ Ok e))
+    (words : List (List ℕ)) (all : Result (List Event) (ℕ × LineKind))
+    → lines text ≡ line ∷ lines rest → words ≡ words_of line → IfNone event (is_skipped words ≡ true)
+    → IfSome event (λ e. (is_skipped words ≡ false) × (line_event graph names words ≡ Ok e))
     → now ≡ before ++ option_to_list event
     → after_events before (schedule_of graph names at (lines text)) ≡ all → after_events now (schedule_of graph names (at + 1) (lines rest)) ≡ all
-schedule_more graph names before now None at text line rest all split skipped read push so_far =
+schedule_more graph names before now None at text line rest words all split words_are skipped read push so_far =
     ap (λ es. after_events es (schedule_of graph names (at + 1) (lines rest))) (push ∙ append-nil before)
-    ∙ schedule_skip graph names before at text line rest all split skipped so_far
-schedule_more graph names before now (Some event) at text line rest all split skipped read push so_far =
-    schedule_event graph names before now event at text line rest all split read.0 read.1 push so_far
+    ∙ schedule_skip graph names before at text line rest all split (ap is_skipped (sym words_are) ∙ skipped) so_far
+schedule_more graph names before now (Some event) at text line rest words all split words_are skipped read push so_far =
+    schedule_event graph names before now event at text line rest all split (ap is_skipped (sym words_are) ∙ read.0)
+    (ap (line_event graph names) (sym words_are) ∙ read.1) push so_far
+
+-- a line more that is bad
+pub schedule_fault : (graph : Graph) (names : List (List ℕ)) (before : List Event) (at : ℕ) (text line rest : List ℕ)
+    (words : List (List ℕ)) (kind : LineKind) (all : Result (List Event) (ℕ × LineKind))
+    → lines text ≡ line ∷ lines rest → words ≡ words_of line → is_skipped words ≡ false → line_event graph names words ≡ Err kind
+    → after_events before (schedule_of graph names at (lines text)) ≡ all → all ≡ Err (at, kind)
+schedule_fault graph names before at text line rest words kind all split words_are is bad so_far =
+    sym so_far
+    ∙ ap (λ ls. after_events before (schedule_of graph names at ls)) split
+    ∙ ap (λ t. after_events before (line_then graph names at line (lines rest) t)) (ap is_skipped (sym words_are) ∙ is)
+    ∙ ap (λ e. after_events before (event_onto at e (schedule_of graph names (at + 1) (lines rest)))) (ap (line_event graph names) (sym words_are) ∙ bad)
 
 -- what holds of the events holds with one more, where there is one
 pub known_more : (P : Event → Type 0) (before now : List Event) (event : Option Event) → now ≡ before ++ option_to_list event → All P before → IfSome event P

@@ -1,3 +1,5 @@
+pub mod Control
+pub mod Failure
 pub mod Line
 pub mod Named
 pub mod Receivers

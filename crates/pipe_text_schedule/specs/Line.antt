@@ -5,6 +5,8 @@ use Rattle.pipe_model.specs.declared.event.Event.{Event}
 use Rattle.pipe_model.specs.Event.{IsOfGraph, IsBuilt}
 use Rattle.pipe_text.specs.declared.kind.LineKind.{LineKind}
 use Rattle.pipe_text.specs.declared.kind.LineKind.TheVariants.{Verb}
+use Rattle.pipe_text_schedule.specs.Control.{control_line}
+use Rattle.pipe_text_schedule.specs.Failure.{crash_line, cut_line}
 use Rattle.pipe_text_schedule.specs.Send.{send_line}
 use Rattle.pipe_text_schedule.specs.Take.{take_line, lose_line}
 use Rattle.pipe_text_schedule.specs.Tick.{tick_line}
@@ -17,6 +19,9 @@ line_event graph names (verb ∷ words) =
     else if bytes_eq verb (codes "tick") then tick_line graph names words
     else if bytes_eq verb (codes "take") then take_line graph words
     else if bytes_eq verb (codes "lose") then lose_line graph words
+    else if bytes_eq verb (codes "control") then control_line words
+    else if bytes_eq verb (codes "crash") then crash_line graph names words
+    else if bytes_eq verb (codes "cut") then cut_line graph words
     else Err Verb
 
 -- an event of the network, of a kind that is built

@@ -5,7 +5,9 @@ ghost use Rattle.pipe_text_schedule.specs.Named.{link_in};
 ghost use Rattle.pipe_text_schedule.specs.Take.{keep_of, lose_line, place_of, take_from, take_line};
 ghost use Rattle.pipe_text_schedule.specs.Tick.{tick_line};
 
+use crate::control::read_control;
 use crate::exact::{three_words, two_words};
+use crate::failure::{read_crash, read_cut};
 use crate::name::{link_named, node_named};
 use crate::send::read_send;
 use pipe_base::{LAST_STAMP, NoMemory, Ts};
@@ -14,7 +16,8 @@ use pipe_text::{LineKind, read_number};
 use pipe_topo::{Names, Topology};
 use std::alloc::Global;
 
-const LAST_PLACE: u64 = 4294967295;
+/// The last place that a take or a loss can name.
+pub const LAST_PLACE: u64 = 4294967295;
 
 /// The event of a line, by its words, or the line's first fault.
 pub fn read_event(
@@ -38,6 +41,12 @@ pub fn read_event(
         read_take(topology, words)
     } else if *verb == b"lose".as_slice() {
         read_lose(topology, words)
+    } else if *verb == b"control".as_slice() {
+        read_control(words)
+    } else if *verb == b"crash".as_slice() {
+        read_crash(names, topology, words)
+    } else if *verb == b"cut".as_slice() {
+        read_cut(topology, words)
     } else {
         Err(LineKind::Verb)
     })
@@ -99,7 +108,8 @@ fn take_at(
     })
 }
 
-fn keep_of(word: &[u8]) -> Option<bool>
+/// What the last word of a take says.
+pub fn keep_of(word: &[u8]) -> Option<bool>
     ensures { result ≡ keep_of word.now }
 {
     if word == b"keep".as_slice() {

@@ -2,8 +2,10 @@
 //! fault.
 #![tactic(auto)]
 
+mod control;
 mod event;
 mod exact;
+mod failure;
 mod laws;
 mod name;
 mod receivers;

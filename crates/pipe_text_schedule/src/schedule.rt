@@ -1,16 +1,16 @@
 // The lines of a schedule as events.
-ghost use Rattle.std.specs.Prelude.{◌≡◌, ◌+◌, ◌++◌, ◌≤◌, ℕ, All, true, false, length, IfOk, IfSome, IfNone, Ok, Err, OnOk};
+ghost use Rattle.std.specs.Prelude.{◌≡◌, ◌+◌, ◌++◌, ◌≤◌, ℕ, All, true, false, length, map, IfOk, IfSome, IfNone, Ok, Err, OnOk};
 ghost use Rattle.std.specs.Option.{option_to_list};
 ghost use Rattle.std.specs.Str.Lines.{lines};
 ghost use Rattle.pipe_text.specs.declared.kind.LineKind.{LineKind as Kind};
-ghost use Rattle.pipe_text.specs.Words.{words_of, is_skipped};
+ghost use Rattle.pipe_text.specs.Words.{is_skipped};
 ghost use Rattle.pipe_text_schedule.specs.Line.{CanHappen, line_event};
 ghost use Rattle.pipe_text_schedule.specs.Schedule.{schedule_of};
 
 use crate::event::read_event;
 use pipe_base::{List, NoMemory};
 use pipe_model::{Event, EventList};
-use pipe_text::{LineKind, is_skipped, next_line, read_words};
+use pipe_text::{LineKind, is_skipped, read_line_words};
 use pipe_topo::{Names, Topology};
 use std::alloc::Global;
 
@@ -51,8 +51,8 @@ pub fn read_schedule(
     let mut rest = text;
     let mut line = first;
     'lines: while !rest.is_empty() {
-        let (next, after) = next_line(rest);
-        let event = match read_line(alloc, names, topology, &mut words, next, line) {
+        let after = read_line_words(&mut words, rest)?;
+        let event = match read_line(alloc, names, topology, words.as_slice(), line) {
             Ok(event) => event,
             Err(fault) => return Err(fault),
         };
@@ -73,23 +73,19 @@ fn add(events: &mut EventList, event: Option<Event>) -> Result<(), NoMemory>
     }
 }
 
-// The event of the line with this number. None where the line is skipped. The words are those of the line before, and then
-// of this one.
-fn read_line<'a>(
+// The event of the line with these words and this number. None where the line is skipped.
+fn read_line(
     alloc: Global,
     names: &Names,
     topology: &Topology,
-    words: &mut Vec<&'a [u8]>,
-    text: &'a [u8],
+    words: &[&[u8]],
     line: u32,
 ) -> Result<Option<Event>, ScheduleFault>
-    ensures event { IfOk result (λ event. IfSome event (λ e. (is_skipped (words_of text.now) ≡ false) × (line_event topology.now names.now (words_of text.now) ≡ Ok e))) }
+    ensures event { IfOk result (λ event. IfSome event (λ e. (is_skipped (map (λ word. word.now) words.now) ≡ false) × (line_event topology.now names.now (map (λ word. word.now) words.now) ≡ Ok e))) }
     ensures known { IfOk result (λ event. IfSome event (CanHappen topology.now)) }
-    ensures skipped { IfOk result (λ event. IfNone event (is_skipped (words_of text.now) ≡ true)) }
-    ensures fault { (at : ℕ) (kind : Kind) → result ≡ Err (ScheduleFault.Line at kind) → (at ≡ line) × ((is_skipped (words_of text.now) ≡ false) × (line_event topology.now names.now (words_of text.now) ≡ Err kind)) }
+    ensures skipped { IfOk result (λ event. IfNone event (is_skipped (map (λ word. word.now) words.now) ≡ true)) }
+    ensures fault { (at : ℕ) (kind : Kind) → result ≡ Err (ScheduleFault.Line at kind) → (at ≡ line) × ((is_skipped (map (λ word. word.now) words.now) ≡ false) × (line_event topology.now names.now (map (λ word. word.now) words.now) ≡ Err kind)) }
 {
-    read_words(words, text)?;
-    let words = words.as_slice();
     if is_skipped(words) {
         return Ok(None);
     }

@@ -1,0 +1,38 @@
+// Nodes that crash and links that are cut.
+ghost use Rattle.std.specs.Prelude.{◌≡◌, map, IfOk};
+ghost use Rattle.pipe_text_schedule.specs.Failure.{crash_line, cut_line};
+ghost use Rattle.pipe_text_schedule.specs.Line.{CanHappen};
+
+use crate::exact::one_word;
+use crate::name::{link_named, node_named};
+use pipe_model::Event;
+use pipe_text::LineKind;
+use pipe_topo::{Names, Topology};
+
+// `crash NODE`
+pub fn read_crash(names: &Names, topology: &Topology, words: &[&[u8]]) -> Result<Event, LineKind>
+    ensures event { result ≡ crash_line topology.now names.now (map (λ word. word.now) words.now) }
+    ensures known { IfOk result (CanHappen topology.now) }
+{
+    let Some(node) = one_word(words) else {
+        return Err(LineKind::Count);
+    };
+    let Some(node) = node_named(names, topology, node) else {
+        return Err(LineKind::Node);
+    };
+    Ok(Event::Crash { node })
+}
+
+// `cut LINK`
+pub fn read_cut(topology: &Topology, words: &[&[u8]]) -> Result<Event, LineKind>
+    ensures event { result ≡ cut_line topology.now (map (λ word. word.now) words.now) }
+    ensures known { IfOk result (CanHappen topology.now) }
+{
+    let Some(link) = one_word(words) else {
+        return Err(LineKind::Count);
+    };
+    let Some(link) = link_named(topology, link) else {
+        return Err(LineKind::Link);
+    };
+    Ok(Event::Cut { link })
+}
