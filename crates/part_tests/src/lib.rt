@@ -33,3 +33,5 @@ mod silence;
 mod switch;
 #[cfg(test)]
 mod topo;
+#[cfg(test)]
+mod waits;

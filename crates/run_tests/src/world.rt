@@ -102,7 +102,7 @@ fn look(rt: &impl Abort, world: &World) {
     let registers = world.half(NodeId(2)).registers();
     assert!(rt; registers.be() == Ts(60) && registers.commit() == Ts(0));
     assert!(rt; world.host(HostId(0)).next() == Ts(60));
-    assert!(rt; world.trace().len() == ACTS.len() && world.items() == 8);
+    assert!(rt; world.trace().len() == ACTS.len() && world.items() == 9);
 }
 
 #[test]
