@@ -58,7 +58,7 @@ fn frozen(message: Option<Addressed>) -> Option<u16> {
     }
 }
 
-fn act(rt: &impl Abort, alloc: Global, queues: &mut Queues, act: Act) -> Result<(), NoMemory> {
+fn make(rt: &impl Abort, alloc: Global, queues: &mut Queues, act: Act) -> Result<(), NoMemory> {
     let link = LinkId(0);
     match act {
         Act::Put(ts) => queues.put(link, packet(alloc, ts))?,
@@ -79,7 +79,7 @@ fn act(rt: &impl Abort, alloc: Global, queues: &mut Queues, act: Act) -> Result<
 fn packets_and_messages_wait_in_order(rt: HostRuntime) -> Result<(), NoMemory> {
     let mut queues = Queues::new(rt.alloc(), 1)?;
     for (done, packets, messages) in &ACTS {
-        act(&rt, rt.alloc(), &mut queues, *done)?;
+        make(&rt, rt.alloc(), &mut queues, *done)?;
         assert!(&rt; queues.waiting(LinkId(0)) == *packets);
         assert!(&rt; queues.waiting_control() == *messages);
     }
