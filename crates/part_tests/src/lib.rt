@@ -33,5 +33,3 @@ mod silence;
 mod switch;
 #[cfg(test)]
 mod topo;
-#[cfg(test)]
-mod waits;
