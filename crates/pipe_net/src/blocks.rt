@@ -6,7 +6,7 @@ use pipe_base::NoMemory;
 use std::collections::VecDeque;
 
 /// The most items of a block. It takes room as it is filled.
-const BLOCK: usize = 256;
+const BLOCK: usize = 512;
 
 pub type Blocks<T> = VecDeque<VecDeque<T>>;
 
