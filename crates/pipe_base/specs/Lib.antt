@@ -2,6 +2,11 @@ pub mod Barrier
 pub mod Below
 pub mod Calls
 pub mod Clock
+pub mod Count
+pub mod Cut
+pub mod Doomed
+pub mod Failed
+pub mod FailureTime
 pub mod Fate
 pub mod Graph
 pub mod Kept
@@ -13,6 +18,7 @@ pub mod Packets
 pub mod Path
 pub mod Promise
 pub mod Reach
+pub mod Reported
 pub mod Resends
 pub mod Scattering
 pub mod Settled
@@ -20,4 +26,5 @@ pub mod Shared
 pub mod ShortestRoute
 pub mod Silence
 pub mod Step
+pub mod Useless
 pub mod Ways

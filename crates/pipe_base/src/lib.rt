@@ -10,6 +10,7 @@ mod list;
 mod memory;
 mod message;
 mod name;
+mod noted;
 mod outside;
 mod packet;
 mod puts;
@@ -27,6 +28,7 @@ pub use message::{
     Dest, DestList, Entry, Key, LoggedList, Message, RECEIVER_LIMIT, Service, UNSETTLED_LIMIT,
 };
 pub use name::{HostId, LAST_BARRIER, LAST_STAMP, Link, LinkId, NodeId, Ts};
+pub use noted::Noted;
 pub use outside::{Sink, Source};
 pub use packet::{Packet, PacketKind, Plane};
 pub use router::Router;

@@ -11,8 +11,8 @@ use Rattle.pipe_paths.proofs.BelowLaws.{none_below}
 use Rattle.pipe_paths.proofs.PathLaws.{path_append, path_more}
 use Rattle.pipe_paths.proofs.Rounds.{has_path, is_reach}
 use Rattle.pipe_paths.proofs.Tests.{and_both, and_parts, not_from, not_gives, not_is, or_cases, or_left, or_right}
-use Rattle.pipe_failtime.specs.Cut.{IsCut, is_cut}
-use Rattle.pipe_failtime.specs.Reported.{is_reported, unreported}
+use Rattle.pipe_base.specs.Cut.{IsCut, is_cut}
+use Rattle.pipe_base.specs.Reported.{is_reported, unreported}
 use Rattle.pipe_failtime.proofs.TestLaws.{and_fails, none_from}
 
 -- a link and what leads on from it by live links do so by unreported ones, or there is a reported link

@@ -5,7 +5,7 @@ use Rattle.pipe_base.specs.Below.{any_below}
 use Rattle.pipe_paths.proofs.BelowLaws as paths
 use Rattle.pipe_paths.proofs.BelowLaws.{any_below_gives, count_gains}
 use Rattle.pipe_paths.proofs.Tests.{not_from}
-use Rattle.pipe_failtime.specs.Count.{count_below}
+use Rattle.pipe_base.specs.Count.{count_below}
 
 pub none_more : (p : ℕ → Bool) (k : ℕ) → any_below p k ≡ false → p k ≡ false → any_below p (k + 1) ≡ false
 none_more p k none isnt =

@@ -5,7 +5,7 @@ use Rattle.pipe_base.specs.declared.name.Ts.{Ts}
 use Rattle.pipe_base.specs.Graph.{Graph}
 use Rattle.pipe_base.specs.Reach.{feeds}
 use Rattle.pipe_paths.proofs.Tests.{and_both, and_parts}
-use Rattle.pipe_failtime.specs.FailureTime.{IsFailureTime, IsFedReport, failure_time, fed_report, later, latest_below}
+use Rattle.pipe_base.specs.FailureTime.{IsFailureTime, IsFedReport, failure_time, fed_report, later, latest_below}
 use Rattle.pipe_failtime.proofs.TestLaws.{below_next}
 
 -- what the latest time below a bound is: one of the times, and none is later; or there is none

@@ -6,7 +6,7 @@ use Rattle.pipe_base.specs.Reach.{feeds}
 use Rattle.pipe_paths.proofs.BelowLaws.{none_below}
 use Rattle.pipe_paths.proofs.Rounds.{fed_along}
 use Rattle.pipe_paths.proofs.Tests.{and_both, and_parts, not_gives, not_is, not_from}
-use Rattle.pipe_failtime.specs.Useless.{IsUseless, is_fed, is_useless}
+use Rattle.pipe_base.specs.Useless.{IsUseless, is_fed, is_useless}
 use Rattle.pipe_failtime.proofs.TestLaws.{and_fails, none_from}
 
 pub useless_in_words : (g : Graph) (by kept : ℕ → Bool) (link : ℕ) → is_useless g by kept link ≡ true → IsUseless g by kept link

@@ -1,7 +1,7 @@
 -- The host that must go, as it is looked for: host by host, and the better one is kept.
 use Rattle.std.specs.Prelude.{ℕ, zero, suc, if◌then◌else◌, Bool, ◌&&◌, Option, None, Some}
 use Rattle.pipe_base.specs.Graph.{Graph}
-use Rattle.pipe_failtime.specs.Doomed.{goes_before, has_strangers, standing_of}
+use Rattle.pipe_base.specs.Doomed.{goes_before, has_strangers, standing_of}
 
 -- the host is left, and must go rather than the first so far
 abbrev pub goes_rather : Graph → (ℕ → Bool) → (ℕ → Bool) → Option ℕ → ℕ → Bool

@@ -1,9 +1,3 @@
-pub mod Count
-pub mod Cut
-pub mod Doomed
-pub mod FailureTime
 pub mod Filled
 pub mod First
 pub mod Reaching
-pub mod Reported
-pub mod Useless

@@ -3,8 +3,8 @@ ghost use Rattle.std.specs.Prelude.{◌≡◌, ℕ, ◌<◌, ◌≤◌, ◌&&◌
 ghost use Rattle.pipe_base.specs.Below.{any_below};
 ghost use Rattle.pipe_base.specs.Reach.{reaches};
 ghost use Rattle.pipe_topo.specs.Sets.{has};
-ghost use Rattle.pipe_failtime.specs.Count.{count_below};
-ghost use Rattle.pipe_failtime.specs.Doomed.{are_partners, goes_before, has_strangers, is_stranger, standing_of};
+ghost use Rattle.pipe_base.specs.Count.{count_below};
+ghost use Rattle.pipe_base.specs.Doomed.{are_partners, goes_before, has_strangers, is_stranger, standing_of};
 ghost use Rattle.pipe_failtime.specs.First.{first_to_go, goes_rather, next_to_go};
 
 use crate::reach::Reach;
@@ -95,7 +95,7 @@ struct Standing {
 }
 
 impl Model for Standing {
-    ghost use Rattle.pipe_failtime.specs.Doomed as doomed;
+    ghost use Rattle.pipe_base.specs.Doomed as doomed;
 
     ghost Value = { doomed.Standing };
 

@@ -5,11 +5,11 @@ ghost use Rattle.pipe_base.specs.declared.name.Ts.{Ts};
 ghost use Rattle.pipe_base.specs.Graph.{Graph, IsGraph, head_of};
 ghost use Rattle.pipe_base.specs.Path.{IsPath};
 ghost use Rattle.pipe_base.specs.Reach.{feeds, reaches};
-ghost use Rattle.pipe_failtime.specs.Cut.{IsCut, is_cut};
-ghost use Rattle.pipe_failtime.specs.Doomed.{GoesNext, are_partners, doomed, goes_next, is_left};
-ghost use Rattle.pipe_failtime.specs.FailureTime.{IsFailureTime, IsFedReport, failure_time};
-ghost use Rattle.pipe_failtime.specs.Reported.{unreported};
-ghost use Rattle.pipe_failtime.specs.Useless.{IsUseless, is_useless};
+ghost use Rattle.pipe_base.specs.Cut.{IsCut, is_cut};
+ghost use Rattle.pipe_base.specs.Doomed.{GoesNext, are_partners, doomed, goes_next, is_left};
+ghost use Rattle.pipe_base.specs.FailureTime.{IsFailureTime, IsFedReport, failure_time};
+ghost use Rattle.pipe_base.specs.Reported.{unreported};
+ghost use Rattle.pipe_base.specs.Useless.{IsUseless, is_useless};
 
 /// A doomed host stays doomed.
 pub fn doomed_hosts_stay_doomed()

@@ -3,8 +3,8 @@ ghost use Rattle.std.specs.Prelude.{◌≡◌, ℕ, ◌<◌, ◌==◌, ◌&&◌,
 ghost use Rattle.pipe_base.specs.Graph.{is_half};
 ghost use Rattle.pipe_topo.specs.Reports.{report_of};
 ghost use Rattle.pipe_topo.specs.Sets.{has};
-ghost use Rattle.pipe_failtime.specs.Reported.{unreported};
-ghost use Rattle.pipe_failtime.specs.Useless.{is_fed, is_useless};
+ghost use Rattle.pipe_base.specs.Reported.{unreported};
+ghost use Rattle.pipe_base.specs.Useless.{is_fed, is_useless};
 
 use crate::reach::reachers;
 use crate::reported::unreported;

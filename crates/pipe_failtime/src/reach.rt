@@ -5,7 +5,7 @@ ghost use Rattle.pipe_base.specs.Graph.{outs_of};
 ghost use Rattle.pipe_base.specs.Reach.{reaches};
 ghost use Rattle.pipe_topo.specs.Sets.{has};
 ghost use Rattle.pipe_topo.specs.Walk.{leads_near};
-ghost use Rattle.pipe_failtime.specs.Doomed.{are_partners};
+ghost use Rattle.pipe_base.specs.Doomed.{are_partners};
 ghost use Rattle.pipe_failtime.specs.Filled.{IsFilled};
 ghost use Rattle.pipe_failtime.specs.Reaching.{IsReachTable};
 

@@ -2,9 +2,9 @@
 ghost use Rattle.std.specs.Prelude.{◌≡◌, ℕ, ◌<◌, length, IfOk};
 ghost use Rattle.pipe_topo.specs.Reports.{report_of};
 ghost use Rattle.pipe_topo.specs.Sets.{has};
-ghost use Rattle.pipe_failtime.specs.Doomed.{doomed, is_left};
+ghost use Rattle.pipe_base.specs.Doomed.{doomed, is_left};
 ghost use Rattle.pipe_failtime.specs.Filled.{IsFilled};
-ghost use Rattle.pipe_failtime.specs.Reported.{unreported};
+ghost use Rattle.pipe_base.specs.Reported.{unreported};
 
 use crate::first::next_to_go;
 use crate::reach::Reach;

@@ -6,7 +6,7 @@ use Rattle.pipe_base.specs.Below.{any_below}
 use Rattle.pipe_base.specs.Graph.{Graph}
 use Rattle.pipe_base.specs.Path.{IsPath}
 use Rattle.pipe_base.specs.Reach.{reaches}
-use Rattle.pipe_failtime.specs.Reported.{is_reported}
+use Rattle.pipe_base.specs.Reported.{is_reported}
 
 -- the host reaches no kept host by the set
 abbrev pub is_cut : Graph → (ℕ → Bool) → (ℕ → Bool) → ℕ → Bool

@@ -3,7 +3,7 @@ use Rattle.std.specs.Prelude.{◌≡◌, ℕ, zero, suc, ◌<◌, ◌≤◌, ◌
 use Rattle.pipe_base.specs.Below.{any_below}
 use Rattle.pipe_base.specs.Graph.{Graph, is_host}
 use Rattle.pipe_base.specs.Reach.{reaches}
-use Rattle.pipe_failtime.specs.Count.{count_below}
+use Rattle.pipe_base.specs.Count.{count_below}
 
 -- the host is one of the graph, a member, and not doomed
 abbrev pub is_left : Graph → (ℕ → Bool) → (ℕ → Bool) → ℕ → Bool
