@@ -1,27 +1,64 @@
--- What the controller knows: who takes part, which links count, who was announced as failed. There are no decisions yet: all
--- hosts take part, all links count, and nobody is announced.
-use Rattle.std.specs.Prelude.{ℕ, ◌==◌, Bool, true, List, []}
-use Rattle.std.specs.List.{list_any}
+-- The controller along a run: what it knows after a history, and what a decision does.
+use Rattle.std.specs.Prelude.{ℕ, Bool, List, [], ◌∷◌}
+use Rattle.pipe_base.specs.declared.control.Addressed.{Addressed}
 use Rattle.pipe_base.specs.declared.control.Announced.{Announced}
+use Rattle.pipe_base.specs.declared.control.Control.{Control}
+use Rattle.pipe_base.specs.declared.control.To.{To}
+use Rattle.pipe_base.specs.declared.control.To.TheVariants.{Controller}
 use Rattle.pipe_base.specs.declared.name.LinkId.{LinkId}
-use Rattle.pipe_base.specs.Graph.{Graph, is_host}
+use Rattle.pipe_base.specs.declared.step.Outcome.{Outcome}
+use Rattle.pipe_base.specs.declared.step.Outcome.TheVariants.{Ok}
+use Rattle.pipe_base.specs.declared.step.Step.{Step}
+use Rattle.pipe_base.specs.Graph.{Graph}
+use Rattle.pipe_base.specs.Step.{quiet_step}
+use Rattle.pipe_model.specs.declared.event.Event.{Event}
+use Rattle.pipe_model.specs.declared.event.Event.TheVariants.{ControlTake, Decide}
 use Rattle.pipe_model.specs.declared.record.Record.{Record}
+use Rattle.pipe_model.specs.declared.record.Took.{Took}
+use Rattle.pipe_model.specs.declared.record.Took.TheVariants.{Message}
+use Rattle.pipe_model.specs.Decision.{after_announce, after_decision, after_doom, messages, newly_announced}
+use Rattle.pipe_model.specs.View.{View, after_message, first_view}
+
+-- a message to the controller tells it something, one to a node does not
+abbrev pub after_addressed : To → Control → View → View
+after_addressed Controller control v = after_message control v
+after_addressed _ control v = v
+
+-- what the controller knows after an event: it takes what is addressed to it, and decides
+abbrev pub after_event : Graph → Event → Took → View → View
+after_event graph (ControlTake place keep) (Message a) v = after_addressed a.to a.control v
+after_event graph Decide took v = after_decision graph v
+after_event graph _ took v = v
+
+-- What the controller knows after a history.
+abbrev pub view : Graph → List Record → View
+view graph [] = first_view graph
+view graph (r ∷ past) = after_event graph r.event r.took (view graph past)
+
+-- what a decision does: the hosts that it announces, and the messages that it puts
+abbrev pub decision : Graph → View → Step
+decision graph v = record (quiet_step Ok) {
+  noted = newly_announced graph (after_doom graph v);
+  control = messages graph (after_decision graph v);
+}
+
+-- the step of a record that is no node's own: a decision, or nothing but an outcome
+abbrev pub nobodys_step : Graph → View → Event → Outcome → Step
+nobodys_step graph v Decide outcome = decision graph v
+nobodys_step graph v _ outcome = quiet_step outcome
 
 -- the host takes part
 abbrev pub is_member : Graph → List Record → ℕ → Bool
-is_member graph past host = is_host graph host
+is_member graph past host = (view graph past).members host
 
 -- the link counts: it is not known as dead
 abbrev pub is_live : Graph → List Record → ℕ → Bool
-is_live graph past link = true
+is_live graph past link = (view graph past).live link
 
 -- the links that were found dead and are dropped everywhere, in the order of the decisions
-abbrev pub dropped : List Record → List LinkId
-dropped past = []
+abbrev pub dropped : Graph → List Record → List LinkId
+dropped graph past = (view graph past).dropped
 
 -- the hosts that were announced as failed, each with the time from which on it counts as failed, in the order of announcement
-abbrev pub announced : List Record → List Announced
-announced past = []
-
-abbrev pub is_announced : ℕ → List Announced → Bool
-is_announced host hosts = list_any (λ a. a.host.0 == host) hosts
+abbrev pub announced : Graph → List Record → List Announced
+announced graph past = (view graph past).announced

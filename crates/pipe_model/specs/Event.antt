@@ -1,10 +1,10 @@
--- Which events can happen: their names are those of the network, and their kind is one of those built so far.
+-- Which events can happen: their names are those of the network.
 use Rattle.std.specs.Prelude.{ℕ, ◌<◌, ◌≤◌, List, length, All, AllPairs, ◌≢◌}
 use Rattle.pipe_base.specs.declared.name.HostId.{HostId}
 use Rattle.pipe_base.specs.Graph.{Graph}
 use Rattle.pipe_base.specs.Limits.{last_stamp, most_receivers}
 use Rattle.pipe_model.specs.declared.event.Event.{Event}
-use Rattle.pipe_model.specs.declared.event.Event.TheVariants.{Send, Tick, Take, Lose, Decide, Crash, Cut}
+use Rattle.pipe_model.specs.declared.event.Event.TheVariants.{Send, Tick, Take, Lose, Crash, Cut}
 
 -- one to sixteen receivers, all different and all hosts
 pub record AreReceivers (graph : Graph) (dests : List (HostId × List ℕ)) : Type 0 where
@@ -28,8 +28,3 @@ IsOfGraph graph (Lose link place) = link.0 < length graph.links
 IsOfGraph graph (Crash node) = node.0 < graph.nodes
 IsOfGraph graph (Cut link) = link.0 < length graph.links
 IsOfGraph graph _ = Unit {0}
-
--- what is built so far: all but the decisions of the controller
-abbrev pub IsBuilt : Event → Type 0
-IsBuilt Decide = ⊥
-IsBuilt _ = Unit {0}

@@ -1,9 +1,9 @@
 -- No reliable message is late of itself: where one is late, its receiver knows what became of it.
-use Rattle.std.specs.Prelude.{◌≡◌, ◌⊎◌, ℕ, ◌==◌, nat_le, if◌then◌else◌, Bool, true, false, List, [], ◌∷◌, Some}
-use Rattle.pipe_base.specs.declared.control.Announced.{Announced}
+use Rattle.std.specs.Prelude.{◌≡◌, ◌⊎◌, ℕ, Bool, true, false, List, [], ◌∷◌, Some}
 use Rattle.pipe_base.specs.declared.message.Key.{Key}
 use Rattle.pipe_base.specs.declared.message.Service.TheVariants.{Reliable}
 use Rattle.pipe_base.specs.declared.packet.Packet.{Packet}
+use Rattle.pipe_base.specs.Failed.{is_void}
 use Rattle.pipe_base.specs.Graph.{Graph}
 use Rattle.pipe_base.specs.Messages.{has_key}
 use Rattle.pipe_model.specs.declared.record.Record.{Record}
@@ -18,15 +18,10 @@ use Rattle.pipe_model.specs.NeverLate.{is_late}
 abbrev pub got_recall : Graph → ℕ → Key → List Record → Bool
 got_recall graph host key own = false
 
--- the sender is among the hosts noted as failed, with a first time that is not above the timestamp
-abbrev pub is_void : Key → List Announced → Bool
-is_void key [] = false
-is_void key (a ∷ later) = if a.host.0 == key.src.0 then nat_le a.time.0 key.ts.0 else is_void key later
-
 -- the host held the message, was told to take it back, or has noted its sender as failed by then
 abbrev pub IsKnown : Graph → ℕ → List Record → Key → Type 0
 IsKnown graph host own key =
-    (has_key key (held Reliable graph host own) ≡ true) ⊎ ((got_recall graph host key own ≡ true) ⊎ (is_void key (noted_hosts own) ≡ true))
+    (has_key key (held Reliable graph host own) ≡ true) ⊎ ((got_recall graph host key own ≡ true) ⊎ (is_void (noted_hosts own) key ≡ true))
 
 -- a reliable message that comes late in the record was known to its host before
 abbrev pub IsLateKnown : Graph → ℕ → List Record → Record → Type 0

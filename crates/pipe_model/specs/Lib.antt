@@ -4,6 +4,7 @@ pub mod AllOrNone
 pub mod Clock
 pub mod Controller
 pub mod Correct
+pub mod Decision
 pub mod DownsTold
 pub mod Duties
 pub mod Event
@@ -25,4 +26,5 @@ pub mod Packets
 pub mod PreparedHeld
 pub mod Run
 pub mod Sender
+pub mod View
 pub mod Waiting

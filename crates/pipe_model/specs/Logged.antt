@@ -3,17 +3,22 @@ use Rattle.std.specs.Prelude.{ℕ, Bool, true, false, List, [], ◌∷◌, ◌++
 use Rattle.pipe_base.specs.declared.message.Entry.{Entry}
 use Rattle.pipe_base.specs.declared.message.Service.{Service}
 use Rattle.pipe_base.specs.declared.message.Service.TheVariants.{BestEffort, Reliable}
+use Rattle.pipe_base.specs.Failed.{without_void}
 use Rattle.pipe_base.specs.Graph.{Graph}
 use Rattle.pipe_base.specs.Messages.{Messages, from_barrier, below_barrier, logged_of}
 use Rattle.pipe_model.specs.declared.record.Record.{Record}
 use Rattle.pipe_model.specs.Moments.{barrier_at}
-use Rattle.pipe_model.specs.Fate.{plane_of, held}
+use Rattle.pipe_model.specs.Fate.{failed_for, plane_of, held}
 
--- What the record logs of a service, in the total order: the messages held that its barrier passes in this very record.
+-- the messages that a host may still log: those held, without those that are void
+abbrev pub standing : Service → Graph → ℕ → List Record → Messages
+standing service graph node own = without_void (failed_for service own) (held service graph node own)
+
+-- What the record logs of a service, in the total order: the standing messages that its barrier passes in this very record.
 abbrev pub passed_in : Service → Graph → ℕ → List Record → Record → Messages
 passed_in service graph node own r =
     below_barrier (barrier_at (plane_of service) graph node (r ∷ own))
-    (from_barrier (barrier_at (plane_of service) graph node own) (held service graph node (r ∷ own)))
+    (from_barrier (barrier_at (plane_of service) graph node own) (standing service graph node (r ∷ own)))
 
 -- What the record logs: best effort first, then reliable, each by the barrier of its own plane.
 abbrev pub logged : Graph → ℕ → List Record → Record → List (Service × Entry)

@@ -5,8 +5,9 @@ use Rattle.pipe_base.specs.declared.name.LinkId.{LinkId}
 use Rattle.pipe_base.specs.declared.name.Ts.{Ts}
 use Rattle.pipe_base.specs.declared.control.Announced.{Announced}
 use Rattle.pipe_base.specs.declared.control.Control.{Control}
-use Rattle.pipe_base.specs.declared.control.Control.TheVariants.{Freeze}
-use Rattle.pipe_base.specs.Graph.{Graph, ins_of}
+use Rattle.pipe_base.specs.declared.control.Control.TheVariants.{Freeze, Notice}
+use Rattle.pipe_base.specs.Failed.{past_known}
+use Rattle.pipe_base.specs.Graph.{Graph, ins_of, is_host}
 use Rattle.pipe_base.specs.Moment.{Moment, has_link, is_up}
 use Rattle.pipe_base.specs.Silence.{mark_of, silent_marks}
 use Rattle.pipe_model.specs.declared.event.Event.{Event}
@@ -14,7 +15,7 @@ use Rattle.pipe_model.specs.declared.event.Event.TheVariants.{ControlTake, Tick}
 use Rattle.pipe_model.specs.declared.record.Record.{Record}
 use Rattle.pipe_model.specs.declared.record.Took.{Took}
 use Rattle.pipe_model.specs.declared.record.Took.TheVariants.{Message}
-use Rattle.pipe_model.specs.Moments.{moments_of, quiet_calls}
+use Rattle.pipe_model.specs.Moments.{moments_of, noted_hosts, quiet_calls}
 
 -- what a control message takes down: a freeze its link, where that is an in-link that is up; no other message any
 abbrev pub told_marks : List LinkId → List Moment → Control → List (LinkId × Ts)
@@ -35,9 +36,19 @@ downed graph node own r = downed_by graph node own r.event r.took
 abbrev pub newly_dropped : Graph → ℕ → List Record → Record → List LinkId
 newly_dropped graph node own r = []
 
--- the failed hosts that the node notes: none are built yet
+-- what a control message tells of failed hosts: a notice those past the number that are noted, no other message any
+abbrev pub told_hosts : List Announced → Control → List Announced
+told_hosts noted (Notice list) = past_known noted list
+told_hosts noted _ = []
+
+-- by the event
+abbrev pub noted_by : List Announced → Event → Took → List Announced
+noted_by noted (ControlTake place keep) (Message a) = told_hosts noted a.control
+noted_by noted _ _ = []
+
+-- The failed hosts that a host notes. A half notes none.
 abbrev pub newly_noted : Graph → ℕ → List Record → Record → List Announced
-newly_noted graph node own r = []
+newly_noted graph node own r = if is_host graph node then noted_by (noted_hosts own) r.event r.took else []
 
 -- the links that a node has taken down, each with its value, in the order of going down
 abbrev pub marks : List Record → List (LinkId × Ts)

@@ -1,5 +1,5 @@
 -- What becomes of an event at the node that acts in it, and the stamp of a send.
-use Rattle.std.specs.Prelude.{ℕ, nat_le, if◌then◌else◌, Bool, false, List, length, Option, None, Some}
+use Rattle.std.specs.Prelude.{ℕ, nat_le, if◌then◌else◌, Bool, false, List, [], ◌∷◌, length, Option, None, Some}
 use Rattle.pipe_base.specs.declared.control.Announced.{Announced}
 use Rattle.pipe_base.specs.declared.message.Service.{Service}
 use Rattle.pipe_base.specs.declared.message.Service.TheVariants.{BestEffort, Reliable}
@@ -8,6 +8,7 @@ use Rattle.pipe_base.specs.declared.name.Ts.{Ts}
 use Rattle.pipe_base.specs.declared.step.Outcome.{Outcome}
 use Rattle.pipe_base.specs.declared.step.Outcome.TheVariants.{Ok, ClockEnd, DestFailed, Ignored, Window}
 use Rattle.pipe_base.specs.Clock.{stamp_at}
+use Rattle.pipe_base.specs.Failed.{is_announced}
 use Rattle.pipe_base.specs.Graph.{Graph}
 use Rattle.pipe_base.specs.Limits.{last_stamp, most_unsettled}
 use Rattle.pipe_base.specs.Moment.{is_up}
@@ -20,9 +21,10 @@ use Rattle.pipe_model.specs.Clock.{next}
 use Rattle.pipe_model.specs.Moments.{moments_of, noted_hosts}
 use Rattle.pipe_model.specs.Sender.{sender_calls}
 
--- The first of the receivers that is among the hosts noted as failed. No host is noted yet.
+-- the first of the receivers that is among the hosts noted as failed
 abbrev pub first_failed : List Announced → List (HostId × List ℕ) → Option HostId
-first_failed noted dests = None
+first_failed noted [] = None
+first_failed noted (d ∷ dests) = if is_announced d.0.0 noted then Some d.0 else first_failed noted dests
 
 -- the sender has as many reliable scatterings that are not settled as it may, and the send would be one more
 abbrev pub is_window_full : Service → List Scattering → Bool

@@ -1,12 +1,11 @@
 -- A run: what each record must be, given those before it.
 use Rattle.std.specs.Prelude.{◌≡◌, ℕ, true, false, List, [], ◌∷◌, map, reverse}
 use Rattle.pipe_base.specs.Graph.{Graph}
-use Rattle.pipe_base.specs.Step.{quiet_step}
 use Rattle.pipe_model.specs.declared.event.Event.{Event}
 use Rattle.pipe_model.specs.declared.record.Record.{Record}
 use Rattle.pipe_model.specs.Acting.{is_own, own}
+use Rattle.pipe_model.specs.Controller.{nobodys_step, view}
 use Rattle.pipe_model.specs.Duties.{put, unrouted, control}
-use Rattle.pipe_model.specs.Event.{IsBuilt}
 use Rattle.pipe_model.specs.Fate.{fate}
 use Rattle.pipe_model.specs.Logged.{logged}
 use Rattle.pipe_model.specs.Marks.{downed, newly_dropped, newly_noted}
@@ -31,13 +30,12 @@ abbrev pub IsNodeHistory : Graph → ℕ → List Record → Type 0
 IsNodeHistory graph node [] = Unit {0}
 IsNodeHistory graph node (r ∷ own) = IsNodeHistory graph node own × IsNodeStep graph node own r
 
--- What a record is after a history: the event is one of those built so far, the outcome and what is taken are as told,
--- nothing is done where the record is no node's own, and the node whose it is does what it owes.
+-- What a record is after a history: the outcome and what is taken are as told; where the record is no node's own, a decision
+-- does what the controller decides, and any other event nothing; the node whose it is does what it owes.
 pub record IsStep (graph : Graph) (past : List Record) (r : Record) : Type 0 where
-  pub built : IsBuilt r.event
   pub outcome_is : r.step.outcome ≡ outcome_of graph past r.event
   pub took_is : r.took ≡ took_of graph past r.event
-  pub quiet : ((n : ℕ) → is_own graph n r ≡ false) → r.step ≡ quiet_step r.step.outcome
+  pub nobodys : ((n : ℕ) → is_own graph n r ≡ false) → r.step ≡ nobodys_step graph (view graph past) r.event r.step.outcome
   pub node : (n : ℕ) → is_own graph n r ≡ true → IsNodeStep graph n (own graph n past) r
 
 -- a history: the records so far, newest first
