@@ -7,4 +7,5 @@ pub mod Promises
 pub mod Rising
 pub mod Stamps
 pub mod Steps
+pub mod Void
 pub mod Window
