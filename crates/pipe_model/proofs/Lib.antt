@@ -1,3 +1,4 @@
+pub mod Decisions
 pub mod Downs
 pub mod Entries
 pub mod Links
