@@ -4,7 +4,7 @@ ghost use Rattle.pipe_base.specs.Limits.{most_bytes};
 ghost use Rattle.pipe_model.specs.Run.{event_of};
 ghost use Rattle.pipe_text_input.specs.Content.{content_of};
 ghost use Rattle.pipe_text_input.specs.Read.{IsRead};
-ghost use Rattle.pipe_text_schedule.specs.Line.{CanHappen};
+ghost use Rattle.pipe_model.specs.Event.{IsOfGraph};
 ghost use Rattle.pipe_cli.specs.Replay.{IsRefusal, Replays, replay_text};
 ghost use Rattle.pipe_cli.specs.Running.{IsStopped};
 
@@ -48,7 +48,7 @@ pub fn replay(alloc: Global, form: Form, bytes: Vec<u8>) -> Result<Replayed, Sta
 }
 
 fn run_input(alloc: Global, form: Form, input: Input) -> Result<Replayed, Status>
-    requires { All (CanHappen input.topology) input.events }
+    requires { All (IsOfGraph input.topology) input.events }
     ensures ok { IfOk result (λ done. (bytes : List ℕ) → length bytes ≤ most_bytes → IsRead (content_of bytes) input → Replays form bytes done.trace done.text) }
     ensures err { IfErr result (λ status. (bytes : List ℕ) → length bytes ≤ most_bytes → IsRead (content_of bytes) input → IsRefusal bytes status) }
 {
@@ -104,7 +104,7 @@ fn text_of(
 /// Runs the events in their order, up to the first that is refused.
 fn run_events(world: &mut World, events: EventList) -> Result<(), StepFault>
     requires fresh { world.old.trace ≡ [] }
-    requires known { All (CanHappen world.old.graph) events }
+    requires known { All (IsOfGraph world.old.graph) events }
     ensures graph { world.new.graph ≡ world.old.graph }
     ensures ran { OnOk result (map event_of world.new.trace ≡ events) }
     ensures stopped { IfErr result (λ fault. (items : ℕ) → fault ≡ StepFault.Full items → IsStopped world.old.graph events items) }

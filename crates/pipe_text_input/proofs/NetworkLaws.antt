@@ -13,7 +13,7 @@ use Rattle.pipe_text_plan.specs.Counted.{lines_read}
 use Rattle.pipe_text_plan.specs.Described.{Described, described_by}
 use Rattle.pipe_text_plan.specs.Division.{Division, division_of}
 use Rattle.pipe_text_plan.proofs.PlanLaws.{IsRight, described_right}
-use Rattle.pipe_text_schedule.specs.Line.{CanHappen}
+use Rattle.pipe_model.specs.Event.{IsOfGraph}
 use Rattle.pipe_text_schedule.specs.Schedule.{schedule_of}
 use Rattle.pipe_text_schedule.proofs.HappenLaws.{schedule_happens}
 use Rattle.pipe_text_input.specs.declared.input.InputFault.TheVariants as fault
@@ -21,7 +21,7 @@ use Rattle.pipe_text_input.specs.Content.{scheduled, planned, divided, content_o
 use Rattle.pipe_text_input.specs.Network.{HasNetwork}
 
 scheduled_right : (described : Described) (events : Result (List Event) (ℕ × LineKind)) → IsRight described
-    → IfOk events (All (CanHappen (graph_of described.plan))) → IfOk (scheduled described events) HasNetwork
+    → IfOk events (All (IsOfGraph (graph_of described.plan))) → IfOk (scheduled described events) HasNetwork
 scheduled_right described (Err bad) right known = tt
 scheduled_right described (Ok events) right known = record {
   small = right.0;

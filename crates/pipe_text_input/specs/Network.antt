@@ -4,7 +4,7 @@ use Rattle.pipe_base.specs.Graph.{IsGraph}
 use Rattle.pipe_base.specs.Reach.{JoinsAllHosts}
 use Rattle.pipe_topo.specs.Fault.{fault_of}
 use Rattle.pipe_topo.specs.Plan.{IsPlan, graph_of}
-use Rattle.pipe_text_schedule.specs.Line.{CanHappen}
+use Rattle.pipe_model.specs.Event.{IsOfGraph}
 use Rattle.pipe_text_input.specs.Content.{Content}
 
 -- The plan is within the limits and has no fault, its links join its nodes, its hosts reach each other, and each event is
@@ -14,4 +14,4 @@ pub record HasNetwork (content : Content) : Type 0 where
   pub faultless : fault_of content.plan ≡ None
   pub graph : IsGraph (graph_of content.plan)
   pub joined : JoinsAllHosts (graph_of content.plan)
-  pub known : All (CanHappen (graph_of content.plan)) content.events
+  pub known : All (IsOfGraph (graph_of content.plan)) content.events

@@ -2,7 +2,7 @@
 use Rattle.std.specs.Prelude.{◌≡◌, All, Result, Ok}
 use Rattle.pipe_base.specs.Reach.{JoinsAllHosts}
 use Rattle.pipe_topo.specs.Plan.{IsPlan, graph_of}
-use Rattle.pipe_text_schedule.specs.Line.{CanHappen}
+use Rattle.pipe_model.specs.Event.{IsOfGraph}
 use Rattle.pipe_text_input.specs.declared.input.Input.{Input}
 use Rattle.pipe_text_input.specs.declared.input.InputFault.{InputFault}
 use Rattle.pipe_text_input.specs.Content.{Content}
@@ -13,4 +13,4 @@ pub record IsRead (says : Result Content InputFault) (input : Input) : Type 0 wh
   pub built : input.topology ≡ graph_of input.plan
   pub small : IsPlan input.plan
   pub joined : JoinsAllHosts input.topology
-  pub known : All (CanHappen input.topology) input.events
+  pub known : All (IsOfGraph input.topology) input.events

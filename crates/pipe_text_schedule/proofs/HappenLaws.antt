@@ -10,7 +10,7 @@ use Rattle.pipe_base.specs.declared.message.Service.{Service}
 use Rattle.pipe_base.specs.Graph.{Graph, IsGraph}
 use Rattle.pipe_base.specs.Limits.{last_stamp, most_receivers}
 use Rattle.pipe_model.specs.declared.event.Event.{Event}
-use Rattle.pipe_model.specs.Event.{AreReceivers}
+use Rattle.pipe_model.specs.Event.{AreReceivers, IsOfGraph}
 use Rattle.pipe_text.specs.declared.kind.LineKind.{LineKind}
 use Rattle.pipe_text.specs.declared.kind.LineKind.TheVariants as kind
 use Rattle.pipe_text.specs.declared.kind.LineKind.TheVariants.{Twice}
@@ -18,9 +18,9 @@ use Rattle.pipe_text.specs.Body.{body_of}
 use Rattle.pipe_text.specs.Number.{number_of}
 use Rattle.pipe_text.specs.Words.{words_of, is_skipped}
 use Rattle.pipe_text.proofs.NumberLaws.{number_within}
-use Rattle.pipe_text_schedule.specs.Control.{control_line, control_lose_from, control_lose_line, control_take_from, control_take_line}
+use Rattle.pipe_text_schedule.specs.Control.{control_line, control_lose_from, control_lose_line, control_take_from, control_take_line, decide_line}
 use Rattle.pipe_text_schedule.specs.Failure.{crash_from, crash_line, cut_from, cut_line}
-use Rattle.pipe_text_schedule.specs.Line.{CanHappen, line_event}
+use Rattle.pipe_text_schedule.specs.Line.{failure_event, line_event}
 use Rattle.pipe_text_schedule.specs.Named.{below, name_in, host_in, half_of, half_at, half_split, half_in, node_in, link_in}
 use Rattle.pipe_text_schedule.specs.Receivers.{is_named, receiver_from, receiver_split, receiver_in, if_read, receivers_in}
 use Rattle.pipe_text_schedule.specs.Schedule.{event_onto, schedule_of}
@@ -61,12 +61,12 @@ node_known graph names word is = pick (host_in graph names word) (below_bound gr
 -- ticks, takes and losses
 
 tick_happens : (graph : Graph) (node now : Option ℕ) → IfSome node (λ n. n < graph.nodes) → IfSome now (λ n. n ≤ last_stamp)
-    → IfOk (tick_from node now) (CanHappen graph)
+    → IfOk (tick_from node now) (IsOfGraph graph)
 tick_happens graph None now known reading = tt
 tick_happens graph (Some node) None known reading = tt
-tick_happens graph (Some node) (Some now) known reading = record { known = (known, reading); built = tt }
+tick_happens graph (Some node) (Some now) known reading = (known, reading)
 
-tick_line_happens : (graph : Graph) (names words : List (List ℕ)) → IsGraph graph → IfOk (tick_line graph names words) (CanHappen graph)
+tick_line_happens : (graph : Graph) (names words : List (List ℕ)) → IsGraph graph → IfOk (tick_line graph names words) (IsOfGraph graph)
 tick_line_happens graph names [] is = tt
 tick_line_happens graph names (node ∷ []) is = tt
 tick_line_happens graph names (node ∷ now ∷ []) is =
@@ -74,28 +74,28 @@ tick_line_happens graph names (node ∷ now ∷ []) is =
 tick_line_happens graph names (node ∷ now ∷ other ∷ words) is = tt
 
 take_happens : (graph : Graph) (link place : Option ℕ) (keep : Option Bool) → IfSome link (λ n. n < length graph.links)
-    → IfOk (take_from link place keep) (CanHappen graph)
+    → IfOk (take_from link place keep) (IsOfGraph graph)
 take_happens graph None place keep known = tt
 take_happens graph (Some link) None keep known = tt
 take_happens graph (Some link) (Some place) None known = tt
-take_happens graph (Some link) (Some place) (Some keep) known = record { known = known; built = tt }
+take_happens graph (Some link) (Some place) (Some keep) known = known
 
 link_known : (graph : Graph) (word : List ℕ) → IfSome (link_in graph word) (λ n. n < length graph.links)
 link_known graph word = below_bound (length graph.links) (number_of 65535 word)
 
-take_line_happens : (graph : Graph) (words : List (List ℕ)) → IfOk (take_line graph words) (CanHappen graph)
+take_line_happens : (graph : Graph) (words : List (List ℕ)) → IfOk (take_line graph words) (IsOfGraph graph)
 take_line_happens graph [] = tt
 take_line_happens graph (link ∷ []) = tt
 take_line_happens graph (link ∷ place ∷ []) = take_happens graph (link_in graph link) (place_of place) (Some false) (link_known graph link)
 take_line_happens graph (link ∷ place ∷ keep ∷ []) = take_happens graph (link_in graph link) (place_of place) (keep_of keep) (link_known graph link)
 take_line_happens graph (link ∷ place ∷ keep ∷ other ∷ words) = tt
 
-lose_happens : (graph : Graph) (link place : Option ℕ) → IfSome link (λ n. n < length graph.links) → IfOk (lose_from link place) (CanHappen graph)
+lose_happens : (graph : Graph) (link place : Option ℕ) → IfSome link (λ n. n < length graph.links) → IfOk (lose_from link place) (IsOfGraph graph)
 lose_happens graph None place known = tt
 lose_happens graph (Some link) None known = tt
-lose_happens graph (Some link) (Some place) known = record { known = known; built = tt }
+lose_happens graph (Some link) (Some place) known = known
 
-lose_line_happens : (graph : Graph) (words : List (List ℕ)) → IfOk (lose_line graph words) (CanHappen graph)
+lose_line_happens : (graph : Graph) (words : List (List ℕ)) → IfOk (lose_line graph words) (IsOfGraph graph)
 lose_line_happens graph [] = tt
 lose_line_happens graph (link ∷ []) = tt
 lose_line_happens graph (link ∷ place ∷ []) = lose_happens graph (link_in graph link) (place_of place) (link_known graph link)
@@ -103,54 +103,67 @@ lose_line_happens graph (link ∷ place ∷ other ∷ words) = tt
 
 -- control messages
 
-control_take_happens : (graph : Graph) (place : Option ℕ) (keep : Option Bool) → IfOk (control_take_from place keep) (CanHappen graph)
+control_take_happens : (graph : Graph) (place : Option ℕ) (keep : Option Bool) → IfOk (control_take_from place keep) (IsOfGraph graph)
 control_take_happens graph None keep = tt
 control_take_happens graph (Some place) None = tt
-control_take_happens graph (Some place) (Some keep) = record { known = tt; built = tt }
+control_take_happens graph (Some place) (Some keep) = tt
 
-control_lose_happens : (graph : Graph) (place : Option ℕ) → IfOk (control_lose_from place) (CanHappen graph)
+control_lose_happens : (graph : Graph) (place : Option ℕ) → IfOk (control_lose_from place) (IsOfGraph graph)
 control_lose_happens graph None = tt
-control_lose_happens graph (Some place) = record { known = tt; built = tt }
+control_lose_happens graph (Some place) = tt
 
-control_take_line_happens : (graph : Graph) (words : List (List ℕ)) → IfOk (control_take_line words) (CanHappen graph)
+control_take_line_happens : (graph : Graph) (words : List (List ℕ)) → IfOk (control_take_line words) (IsOfGraph graph)
 control_take_line_happens graph [] = tt
 control_take_line_happens graph (place ∷ []) = control_take_happens graph (place_of place) (Some false)
 control_take_line_happens graph (place ∷ keep ∷ []) = control_take_happens graph (place_of place) (keep_of keep)
 control_take_line_happens graph (place ∷ keep ∷ other ∷ words) = tt
 
-control_lose_line_happens : (graph : Graph) (words : List (List ℕ)) → IfOk (control_lose_line words) (CanHappen graph)
+control_lose_line_happens : (graph : Graph) (words : List (List ℕ)) → IfOk (control_lose_line words) (IsOfGraph graph)
 control_lose_line_happens graph [] = tt
 control_lose_line_happens graph (place ∷ []) = control_lose_happens graph (place_of place)
 control_lose_line_happens graph (place ∷ other ∷ words) = tt
 
-control_line_happens : (graph : Graph) (words : List (List ℕ)) → IfOk (control_line words) (CanHappen graph)
+control_line_happens : (graph : Graph) (words : List (List ℕ)) → IfOk (control_line words) (IsOfGraph graph)
 control_line_happens graph [] = tt
 control_line_happens graph (verb ∷ words) = pick (bytes_eq verb (codes "take")) (bytes_eq verb (codes "lose"))
   where
-    pick : (take lose : Bool) → IfOk (if take then control_take_line words else if lose then control_lose_line words else Err kind.Verb) (CanHappen graph)
+    pick : (take lose : Bool) → IfOk (if take then control_take_line words else if lose then control_lose_line words else Err kind.Verb) (IsOfGraph graph)
     pick true lose = control_take_line_happens graph words
     pick false true = control_lose_line_happens graph words
     pick false false = tt
 
+decide_line_happens : (graph : Graph) (words : List (List ℕ)) → IfOk (decide_line words) (IsOfGraph graph)
+decide_line_happens graph [] = tt
+decide_line_happens graph (word ∷ words) = tt
+
 -- crashes and cuts
 
-crash_happens : (graph : Graph) (node : Option ℕ) → IfSome node (λ n. n < graph.nodes) → IfOk (crash_from node) (CanHappen graph)
+crash_happens : (graph : Graph) (node : Option ℕ) → IfSome node (λ n. n < graph.nodes) → IfOk (crash_from node) (IsOfGraph graph)
 crash_happens graph None known = tt
-crash_happens graph (Some node) known = record { known = known; built = tt }
+crash_happens graph (Some node) known = known
 
-crash_line_happens : (graph : Graph) (names words : List (List ℕ)) → IsGraph graph → IfOk (crash_line graph names words) (CanHappen graph)
+crash_line_happens : (graph : Graph) (names words : List (List ℕ)) → IsGraph graph → IfOk (crash_line graph names words) (IsOfGraph graph)
 crash_line_happens graph names [] is = tt
 crash_line_happens graph names (node ∷ []) is = crash_happens graph (node_in graph names node) (node_known graph names node is)
 crash_line_happens graph names (node ∷ other ∷ words) is = tt
 
-cut_happens : (graph : Graph) (link : Option ℕ) → IfSome link (λ n. n < length graph.links) → IfOk (cut_from link) (CanHappen graph)
+cut_happens : (graph : Graph) (link : Option ℕ) → IfSome link (λ n. n < length graph.links) → IfOk (cut_from link) (IsOfGraph graph)
 cut_happens graph None known = tt
-cut_happens graph (Some link) known = record { known = known; built = tt }
+cut_happens graph (Some link) known = known
 
-cut_line_happens : (graph : Graph) (words : List (List ℕ)) → IfOk (cut_line graph words) (CanHappen graph)
+cut_line_happens : (graph : Graph) (words : List (List ℕ)) → IfOk (cut_line graph words) (IsOfGraph graph)
 cut_line_happens graph [] = tt
 cut_line_happens graph (link ∷ []) = cut_happens graph (link_in graph link) (link_known graph link)
 cut_line_happens graph (link ∷ other ∷ words) = tt
+
+failure_happens : (graph : Graph) (names : List (List ℕ)) (verb : List ℕ) (words : List (List ℕ)) → IsGraph graph
+    → IfOk (failure_event graph names verb words) (IsOfGraph graph)
+failure_happens graph names verb words is = pick (bytes_eq verb (codes "crash")) (bytes_eq verb (codes "cut"))
+  where
+    pick : (crash cut : Bool) → IfOk (if crash then crash_line graph names words else if cut then cut_line graph words else Err kind.Verb) (IsOfGraph graph)
+    pick true cut = crash_line_happens graph names words is
+    pick false true = cut_line_happens graph words
+    pick false false = tt
 
 -- receivers
 
@@ -211,29 +224,26 @@ receivers_right graph names count more before (word ∷ words) sum are =
 -- sends
 
 send_happens : (graph : Graph) (count : ℕ) (host : Option ℕ) (service : Option Service) (now : Option ℕ) (dests : Result (List (HostId × List ℕ)) LineKind)
-    → 0 < count → count ≤ most_receivers → IfSome host (λ h. h < graph.hosts) → IfSome now (λ n. n ≤ last_stamp) → IfOk dests (AreHosts graph count) → IfOk (send_from host service now dests) (CanHappen graph)
+    → 0 < count → count ≤ most_receivers → IfSome host (λ h. h < graph.hosts) → IfSome now (λ n. n ≤ last_stamp) → IfOk dests (AreHosts graph count) → IfOk (send_from host service now dests) (IsOfGraph graph)
 send_happens graph count None service now dests some few known reading are = tt
 send_happens graph count (Some host) None now dests some few known reading are = tt
 send_happens graph count (Some host) (Some service) None dests some few known reading are = tt
 send_happens graph count (Some host) (Some service) (Some now) (Err fault) some few known reading are = tt
 send_happens graph count (Some host) (Some service) (Some now) (Ok dests) some few known reading are =
     let receivers : AreReceivers graph dests = record { some = omega (arith, some, are.0); few = omega (arith, few, are.0); known = are.1; different = are.2 } in
-    record {
-      known = record { host_in = known; reading = reading; receivers = receivers };
-      built = tt;
-    }
+    record { host_in = known; reading = reading; receivers = receivers }
 
-few_happen : (graph : Graph) (count : ℕ) (read : Result Event LineKind) → (0 < count → count ≤ most_receivers → IfOk read (CanHappen graph))
-    → IfOk (if_few count read) (CanHappen graph)
+few_happen : (graph : Graph) (count : ℕ) (read : Result Event LineKind) → (0 < count → count ≤ most_receivers → IfOk read (IsOfGraph graph))
+    → IfOk (if_few count read) (IsOfGraph graph)
 few_happen graph count read right = pick (count == 0) (nat_lt most_receivers count) refl refl
   where
     pick : (none many : Bool) → (count == 0) ≡ none → nat_lt most_receivers count ≡ many
-        → IfOk (if none then Err kind.Count else if many then Err kind.Receivers else read) (CanHappen graph)
+        → IfOk (if none then Err kind.Count else if many then Err kind.Receivers else read) (IsOfGraph graph)
     pick true many counted most = tt
     pick false true counted most = tt
     pick false false counted most = right (grind (arith, nat_tests)) (grind (arith, nat_tests))
 
-send_line_happens : (graph : Graph) (names words : List (List ℕ)) → IfOk (send_line graph names words) (CanHappen graph)
+send_line_happens : (graph : Graph) (names words : List (List ℕ)) → IfOk (send_line graph names words) (IsOfGraph graph)
 send_line_happens graph names [] = tt
 send_line_happens graph names (host ∷ []) = tt
 send_line_happens graph names (host ∷ service ∷ []) = tt
@@ -246,38 +256,37 @@ send_line_happens graph names (host ∷ service ∷ now ∷ receivers) =
 
 -- lines and schedules
 
-line_happens : (graph : Graph) (names words : List (List ℕ)) → IsGraph graph → IfOk (line_event graph names words) (CanHappen graph)
+line_happens : (graph : Graph) (names words : List (List ℕ)) → IsGraph graph → IfOk (line_event graph names words) (IsOfGraph graph)
 line_happens graph names [] is = tt
 line_happens graph names (verb ∷ words) is =
     pick (bytes_eq verb (codes "send")) (bytes_eq verb (codes "tick")) (bytes_eq verb (codes "take")) (bytes_eq verb (codes "lose"))
-    (bytes_eq verb (codes "control")) (bytes_eq verb (codes "crash")) (bytes_eq verb (codes "cut"))
+    (bytes_eq verb (codes "control")) (bytes_eq verb (codes "decide"))
   where
-    pick : (send tick take lose control crash cut : Bool)
+    pick : (send tick take lose control decide : Bool)
         → IfOk (if send then send_line graph names words else if tick then tick_line graph names words else if take then take_line graph words
-        else if lose then lose_line graph words else if control then control_line words else if crash then crash_line graph names words
-        else if cut then cut_line graph words else Err kind.Verb) (CanHappen graph)
-    pick true tick take lose control crash cut = send_line_happens graph names words
-    pick false true take lose control crash cut = tick_line_happens graph names words is
-    pick false false true lose control crash cut = take_line_happens graph words
-    pick false false false true control crash cut = lose_line_happens graph words
-    pick false false false false true crash cut = control_line_happens graph words
-    pick false false false false false true cut = crash_line_happens graph names words is
-    pick false false false false false false true = cut_line_happens graph words
-    pick false false false false false false false = tt
+        else if lose then lose_line graph words else if control then control_line words else if decide then decide_line words
+        else failure_event graph names verb words) (IsOfGraph graph)
+    pick true tick take lose control decide = send_line_happens graph names words
+    pick false true take lose control decide = tick_line_happens graph names words is
+    pick false false true lose control decide = take_line_happens graph words
+    pick false false false true control decide = lose_line_happens graph words
+    pick false false false false true decide = control_line_happens graph words
+    pick false false false false false true = decide_line_happens graph words
+    pick false false false false false false = failure_happens graph names verb words is
 
-onto_happens : (graph : Graph) (at : ℕ) (first : Result Event LineKind) (rest : Result (List Event) (ℕ × LineKind)) → IfOk first (CanHappen graph)
-    → IfOk rest (All (CanHappen graph)) → IfOk (event_onto at first rest) (All (CanHappen graph))
+onto_happens : (graph : Graph) (at : ℕ) (first : Result Event LineKind) (rest : Result (List Event) (ℕ × LineKind)) → IfOk first (IsOfGraph graph)
+    → IfOk rest (All (IsOfGraph graph)) → IfOk (event_onto at first rest) (All (IsOfGraph graph))
 onto_happens graph at (Err fault) rest one all = tt
 onto_happens graph at (Ok event) (Err fault) one all = tt
-onto_happens graph at (Ok event) (Ok events) one all = All-cons (CanHappen graph) event events one all
+onto_happens graph at (Ok event) (Ok events) one all = All-cons (IsOfGraph graph) event events one all
 
 pub schedule_happens : (graph : Graph) (names : List (List ℕ)) (at : ℕ) (lines : List (List ℕ)) → IsGraph graph
-    → IfOk (schedule_of graph names at lines) (All (CanHappen graph))
-schedule_happens graph names at [] is = All-nil (CanHappen graph)
+    → IfOk (schedule_of graph names at lines) (All (IsOfGraph graph))
+schedule_happens graph names at [] is = All-nil (IsOfGraph graph)
 schedule_happens graph names at (line ∷ lines) is =
     pick (is_skipped (words_of line)) (schedule_of graph names (at + 1) lines) (schedule_happens graph names (at + 1) lines is)
   where
-    pick : (skipped : Bool) (rest : Result (List Event) (ℕ × LineKind)) → IfOk rest (All (CanHappen graph))
-        → IfOk (if skipped then rest else event_onto at (line_event graph names (words_of line)) rest) (All (CanHappen graph))
+    pick : (skipped : Bool) (rest : Result (List Event) (ℕ × LineKind)) → IfOk rest (All (IsOfGraph graph))
+        → IfOk (if skipped then rest else event_onto at (line_event graph names (words_of line)) rest) (All (IsOfGraph graph))
     pick true rest all = all
     pick false rest all = onto_happens graph at (line_event graph names (words_of line)) rest (line_happens graph names (words_of line) is) all

@@ -1,7 +1,7 @@
--- `control take PLACE`, `control take PLACE keep` and `control lose PLACE`
+-- `control take PLACE`, `control take PLACE keep`, `control lose PLACE` and `decide`
 use Rattle.std.specs.Prelude.{ℕ, Bool, false, if◌then◌else◌, List, [], ◌∷◌, Option, Some, None, Result, Ok, Err, bytes_eq, codes}
 use Rattle.pipe_model.specs.declared.event.Event.{Event}
-use Rattle.pipe_model.specs.declared.event.Event.TheVariants.{ControlTake, ControlLose}
+use Rattle.pipe_model.specs.declared.event.Event.TheVariants.{ControlTake, ControlLose, Decide}
 use Rattle.pipe_text.specs.declared.kind.LineKind.{LineKind}
 use Rattle.pipe_text.specs.declared.kind.LineKind.TheVariants.{Verb, Count, Number}
 use Rattle.pipe_text_schedule.specs.Take.{keep_of, place_of}
@@ -31,3 +31,8 @@ abbrev pub control_line : List (List ℕ) → Result Event LineKind
 control_line [] = Err Verb
 control_line (verb ∷ words) =
     if bytes_eq verb (codes "take") then control_take_line words else if bytes_eq verb (codes "lose") then control_lose_line words else Err Verb
+
+-- a decision has no words after the verb
+abbrev pub decide_line : List (List ℕ) → Result Event LineKind
+decide_line [] = Ok Decide
+decide_line _ = Err Count

@@ -1,13 +1,14 @@
 // A line of the schedule as an event.
 ghost use Rattle.std.specs.Prelude.{◌≡◌, map, IfOk};
-ghost use Rattle.pipe_text_schedule.specs.Line.{CanHappen, line_event};
+ghost use Rattle.pipe_model.specs.Event.{IsOfGraph};
+ghost use Rattle.pipe_text_schedule.specs.Line.{line_event};
 ghost use Rattle.pipe_text_schedule.specs.Named.{link_in};
 ghost use Rattle.pipe_text_schedule.specs.Take.{keep_of, lose_line, place_of, take_from, take_line};
 ghost use Rattle.pipe_text_schedule.specs.Tick.{tick_line};
 
-use crate::control::read_control;
+use crate::control::{read_control, read_decide};
 use crate::exact::{three_words, two_words};
-use crate::failure::{read_crash, read_cut};
+use crate::failure::read_failure;
 use crate::name::{link_named, node_named};
 use crate::send::read_send;
 use pipe_base::{LAST_STAMP, NoMemory, Ts};
@@ -27,7 +28,7 @@ pub fn read_event(
     words: &[&[u8]],
 ) -> Result<Result<Event, LineKind>, NoMemory>
     ensures event { IfOk result (λ read. read ≡ line_event topology.now names.now (map (λ word. word.now) words.now)) }
-    ensures known { IfOk result (λ read. IfOk read (CanHappen topology.now)) }
+    ensures known { IfOk result (λ read. IfOk read (IsOfGraph topology.now)) }
 {
     let Some((verb, words)) = words.split_first() else {
         return Ok(Err(LineKind::Verb));
@@ -43,19 +44,17 @@ pub fn read_event(
         read_lose(topology, words)
     } else if *verb == b"control".as_slice() {
         read_control(words)
-    } else if *verb == b"crash".as_slice() {
-        read_crash(names, topology, words)
-    } else if *verb == b"cut".as_slice() {
-        read_cut(topology, words)
+    } else if *verb == b"decide".as_slice() {
+        read_decide(words)
     } else {
-        Err(LineKind::Verb)
+        read_failure(names, topology, verb, words)
     })
 }
 
 // `tick NODE READING`
 fn read_tick(names: &Names, topology: &Topology, words: &[&[u8]]) -> Result<Event, LineKind>
     ensures event { result ≡ tick_line topology.now names.now (map (λ word. word.now) words.now) }
-    ensures known { IfOk result (CanHappen topology.now) }
+    ensures known { IfOk result (IsOfGraph topology.now) }
 {
     let Some((node, now)) = two_words(words) else {
         return Err(LineKind::Count);
@@ -72,7 +71,7 @@ fn read_tick(names: &Names, topology: &Topology, words: &[&[u8]]) -> Result<Even
 // `take LINK PLACE` or `take LINK PLACE keep`
 fn read_take(topology: &Topology, words: &[&[u8]]) -> Result<Event, LineKind>
     ensures event { result ≡ take_line topology.now (map (λ word. word.now) words.now) }
-    ensures known { IfOk result (CanHappen topology.now) }
+    ensures known { IfOk result (IsOfGraph topology.now) }
 {
     if let Some((link, place)) = two_words(words) {
         return take_at(topology, link, place, Some(false));
@@ -90,7 +89,7 @@ fn take_at(
     keep: Option<bool>,
 ) -> Result<Event, LineKind>
     ensures event { result ≡ take_from (link_in topology.now link.now) (place_of place.now) keep }
-    ensures known { IfOk result (CanHappen topology.now) }
+    ensures known { IfOk result (IsOfGraph topology.now) }
 {
     let Some(link) = link_named(topology, link) else {
         return Err(LineKind::Link);
@@ -122,7 +121,7 @@ pub fn keep_of(word: &[u8]) -> Option<bool>
 // `lose LINK PLACE`
 fn read_lose(topology: &Topology, words: &[&[u8]]) -> Result<Event, LineKind>
     ensures event { result ≡ lose_line topology.now (map (λ word. word.now) words.now) }
-    ensures known { IfOk result (CanHappen topology.now) }
+    ensures known { IfOk result (IsOfGraph topology.now) }
 {
     let Some((link, place)) = two_words(words) else {
         return Err(LineKind::Count);

@@ -4,7 +4,8 @@ ghost use Rattle.std.specs.Option.{option_to_list};
 ghost use Rattle.std.specs.Str.Lines.{lines};
 ghost use Rattle.pipe_text.specs.declared.kind.LineKind.{LineKind as Kind};
 ghost use Rattle.pipe_text.specs.Words.{is_skipped};
-ghost use Rattle.pipe_text_schedule.specs.Line.{CanHappen, line_event};
+ghost use Rattle.pipe_model.specs.Event.{IsOfGraph};
+ghost use Rattle.pipe_text_schedule.specs.Line.{line_event};
 ghost use Rattle.pipe_text_schedule.specs.Schedule.{schedule_of};
 
 use crate::event::read_event;
@@ -43,7 +44,7 @@ pub fn read_schedule(
 ) -> Result<EventList, ScheduleFault>
     requires { length text.now + first ≤ 4294967295 }
     ensures events { IfOk result (λ events. schedule_of topology.now names.now first (lines text.now) ≡ Ok events) }
-    ensures known { IfOk result (All (CanHappen topology.now)) }
+    ensures known { IfOk result (All (IsOfGraph topology.now)) }
     ensures fault { (line : ℕ) (kind : Kind) → result ≡ Err (ScheduleFault.Line line kind) → schedule_of topology.now names.now first (lines text.now) ≡ Err (line, kind) }
 {
     let mut events = List::new(alloc);
@@ -82,7 +83,7 @@ fn read_line(
     line: u32,
 ) -> Result<Option<Event>, ScheduleFault>
     ensures event { IfOk result (λ event. IfSome event (λ e. (is_skipped (map (λ word. word.now) words.now) ≡ false) × (line_event topology.now names.now (map (λ word. word.now) words.now) ≡ Ok e))) }
-    ensures known { IfOk result (λ event. IfSome event (CanHappen topology.now)) }
+    ensures known { IfOk result (λ event. IfSome event (IsOfGraph topology.now)) }
     ensures skipped { IfOk result (λ event. IfNone event (is_skipped (map (λ word. word.now) words.now) ≡ true)) }
     ensures fault { (at : ℕ) (kind : Kind) → result ≡ Err (ScheduleFault.Line at kind) → (at ≡ line) × ((is_skipped (map (λ word. word.now) words.now) ≡ false) × (line_event topology.now names.now (map (λ word. word.now) words.now) ≡ Err kind)) }
 {

@@ -1,7 +1,7 @@
 // The line of a send.
 ghost use Rattle.std.specs.Prelude.{◌≡◌, ◌<◌, ◌≤◌, [], length, map, IfOk};
 ghost use Rattle.pipe_base.specs.Limits.{most_receivers};
-ghost use Rattle.pipe_text_schedule.specs.Line.{CanHappen};
+ghost use Rattle.pipe_model.specs.Event.{IsOfGraph};
 ghost use Rattle.pipe_text_schedule.specs.Named.{host_in};
 ghost use Rattle.pipe_text_schedule.specs.Receivers.{receivers_in};
 ghost use Rattle.pipe_text_schedule.specs.Send.{send_from, send_line, service_of};
@@ -23,7 +23,7 @@ pub fn read_send(
     words: &[&[u8]],
 ) -> Result<Result<Event, LineKind>, NoMemory>
     ensures event { IfOk result (λ read. read ≡ send_line topology.now names.now (map (λ word. word.now) words.now)) }
-    ensures known { IfOk result (λ read. IfOk read (CanHappen topology.now)) }
+    ensures known { IfOk result (λ read. IfOk read (IsOfGraph topology.now)) }
 {
     let Some((host, words)) = words.split_first() else {
         return Ok(Err(LineKind::Count));
@@ -55,7 +55,7 @@ fn read_fields(
 ) -> Result<Result<Event, LineKind>, NoMemory>
     requires { (0 < length receivers.now) × (length receivers.now ≤ most_receivers) }
     ensures event { IfOk result (λ read. read ≡ send_from (host_in topology.now names.now host.now) (service_of service.now) (reading_of now.now) (receivers_in topology.now names.now [] (map (λ word. word.now) receivers.now))) }
-    ensures known { IfOk result (λ read. IfOk read (CanHappen topology.now)) }
+    ensures known { IfOk result (λ read. IfOk read (IsOfGraph topology.now)) }
 {
     let Some(host) = host_named(names, topology, host) else {
         return Ok(Err(LineKind::Node));

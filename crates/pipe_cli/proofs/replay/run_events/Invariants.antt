@@ -1,6 +1,6 @@
 use Rattle.std.proofs.Common.{◌≡◌, ◌++◌, vec_len, map, reverse, All}
 use Rattle.pipe_model.specs.Run.{event_of}
-use Rattle.pipe_text_schedule.specs.Line.{CanHappen}
+use Rattle.pipe_model.specs.Event.{IsOfGraph}
 use Rattle.pipe_cli.proofs.replay.run_events.Given as goal
 
 -- the events that happened, and those that are left from the last on
@@ -8,7 +8,7 @@ abbrev pub invariant-running : goal.invariant-running
 invariant-running l = record {
   graph : l.world.graph ≡ l.fn.world.graph;
   events : map event_of l.world.trace ++ reverse l.left.items ≡ l.fn.events;
-  known : All (CanHappen l.fn.world.graph) l.left.items;
+  known : All (IsOfGraph l.fn.world.graph) l.left.items;
 }
 
 abbrev pub decreases-running : goal.decreases-running

@@ -1,6 +1,6 @@
 use Rattle.std.proofs.Common.{◌≡◌, ◌∙◌, Err, map, ap, sym, arith}
 use Rattle.pipe_text.specs.Words.{words_of}
-use Rattle.pipe_text_schedule.specs.Line.{CanHappen}
+use Rattle.pipe_model.specs.Event.{IsOfGraph}
 use Rattle.pipe_text_schedule.proofs.ScheduleLaws.{schedule_more, schedule_fault, known_more}
 use Rattle.pipe_text_schedule.proofs.schedule.read_schedule.Goals as goal
 
@@ -19,6 +19,6 @@ lines-preserved c =
     record {
       same = schedule_more c.args.topology.now c.args.names.now c.lines.events c.add.new.events c.in-Ok.event c.lines.line c.lines.rest.now got.0 c.in_ok-after.after.now _ _ got.1 words
           c.in-Ok.ensures.skipped c.in-Ok.ensures.event c.in_ok-add.ensures c.lines.invariant.same;
-      known = known_more (CanHappen c.args.topology.now) c.lines.events c.add.new.events c.in-Ok.event c.in_ok-add.ensures c.lines.invariant.known c.in-Ok.ensures.known;
+      known = known_more (IsOfGraph c.args.topology.now) c.lines.events c.add.new.events c.in-Ok.event c.in_ok-add.ensures c.lines.invariant.known c.in-Ok.ensures.known;
       within = omega (arith, got.3);
     }
