@@ -1,3 +1,4 @@
+pub mod Decisions
 pub mod Downs
 pub mod Entries
 pub mod Links
@@ -7,4 +8,5 @@ pub mod Promises
 pub mod Rising
 pub mod Stamps
 pub mod Steps
+pub mod Void
 pub mod Window

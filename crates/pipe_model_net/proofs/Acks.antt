@@ -1,9 +1,10 @@
 -- Acknowledgements are true: a host puts one where it holds the message, and what it held it has held ever since.
-use Rattle.std.proofs.Common.{◌≡◌, ℕ, if◌then◌else◌, nat_lt, Bool, true, false, List, ◌∷◌, Option, None, Some, refl, inl, inr, sym, subst, ap, ◌∙◌}
+use Rattle.std.proofs.Common.{◌≡◌, ℕ, if◌then◌else◌, nat_lt, Bool, true, false, List, ◌∷◌, Option, None, Some, refl, inl, inr, sym, subst, ap, ◌∙◌, nat_le, []}
 use Rattle.std.specs.List.{All}
 use Rattle.std.specs.Option.{option_or}
 use Rattle.std.proofs.lemmas.Bool.{or_left, or_right}
 use Rattle.std.proofs.lemmas.List.Elements.{All-nil}
+use Rattle.pipe_base.specs.Failed.{time_of}
 use Rattle.pipe_base.specs.declared.message.Key.{Key}
 use Rattle.pipe_base.specs.declared.message.Service.{Service}
 use Rattle.pipe_base.specs.declared.message.Service.TheVariants.{BestEffort, Reliable}
@@ -14,8 +15,8 @@ use Rattle.pipe_base.specs.declared.packet.Packet.{Packet}
 use Rattle.pipe_base.specs.declared.packet.PacketKind.{PacketKind}
 use Rattle.pipe_base.specs.declared.packet.PacketKind.TheVariants.{Prepare}
 use Rattle.pipe_base.specs.declared.step.Fate.{Fate}
-use Rattle.pipe_base.specs.declared.step.Fate.TheVariants.{Held, Late, Repeat}
-use Rattle.pipe_base.specs.Fate.{fate_of, is_holding}
+use Rattle.pipe_base.specs.declared.step.Fate.TheVariants.{Held, Late, Repeat, Discarded}
+use Rattle.pipe_base.specs.Fate.{fate_of, is_holding, fate_among, fate_from}
 use Rattle.pipe_base.specs.Graph.{Graph}
 use Rattle.pipe_base.specs.Messages.{Messages, has_key, same_key}
 use Rattle.pipe_base.specs.Packets.{Fields, sent_to}
@@ -27,7 +28,7 @@ use Rattle.pipe_model.specs.Acting.{is_own, own}
 use Rattle.pipe_model.specs.Duties.{fields}
 use Rattle.pipe_model.specs.Fate.{fate, fate_for, fate_in, held, plane_of, with_held}
 use Rattle.pipe_model.specs.Got.{carries, gets, got, key_of, message_of}
-use Rattle.pipe_model.specs.Moments.{barrier_at, moments_of}
+use Rattle.pipe_model.specs.Moments.{barrier_at, moments_of, noted_hosts}
 use Rattle.pipe_model.specs.Run.{IsHistory, IsNodeStep, IsStep}
 use Rattle.pipe_model.proofs.Own.{own_more, own_same}
 use Rattle.pipe_model_net.proofs.Acting.{nobodys_or_own, quiet_puts}
@@ -46,7 +47,7 @@ stays_by : (b : Bool) (graph : Graph) (host : ℕ) (key : Key) (past : List Reco
 stays_by true graph host key past r mine has =
     let o : List Record = own graph host past in
     subst (λ (x : List Record). has_key key (held Reliable graph host x) ≡ true) (sym (own_more graph host r past mine))
-    (held_stays (fate_for (barrier_at (plane_of Reliable) graph host o) (held Reliable graph host o) (got Reliable graph host o r)) (got Reliable graph host o r)
+    (held_stays (fate_for (barrier_at (plane_of Reliable) graph host o) (noted_hosts o) (held Reliable graph host o) (got Reliable graph host o r)) (got Reliable graph host o r)
     (held Reliable graph host o) key has)
 stays_by false graph host key past r other has =
     subst (λ (x : List Record). has_key key (held Reliable graph host x) ≡ true) (sym (own_same graph host r past other)) has
@@ -56,14 +57,28 @@ has_held_stays graph host key past r has = stays_by (is_own graph host r) graph 
 
 -- ---- a message that is answered is held
 
--- late, or a repeat of one that is held, or held from now on
-holding_has : (late again : Bool) (b : ℕ) (p : Packet) (ms : Messages) → has_key (key_of p) ms ≡ again
-    → is_holding (Some (if late then Late (record { 0 = b }) else if again then Repeat else Held)) ≡ true
-    → has_key (key_of p) (with_held (Some (if late then Late (record { 0 = b }) else if again then Repeat else Held)) (Some p) ms) ≡ true
-holding_has true again b p ms has holding = cc
-holding_has false true b p ms has holding = has
-holding_has false false b p ms has holding =
+-- late, or void, or a repeat of one that is held, or held from now on
+holding_among : (again : Bool) (p : Packet) (ms : Messages) → has_key (key_of p) ms ≡ again
+    → has_key (key_of p) (with_held (Some (if again then Repeat else Held)) (Some p) ms) ≡ true
+holding_among true p ms has = has
+holding_among false p ms has =
     has_with (key_of p) p.body (key_of p) ms ∙ or_left (same_key (key_of p) (key_of p)) (has_key (key_of p) ms) (same_key-refl (key_of p))
+
+holding_void : (void : Bool) (time : Ts) (p : Packet) (ms : Messages) → is_holding (Some (if void then Discarded time else fate_among ms (key_of p))) ≡ true
+    → has_key (key_of p) (with_held (Some (if void then Discarded time else fate_among ms (key_of p))) (Some p) ms) ≡ true
+holding_void true time p ms holding = cc
+holding_void false time p ms holding = holding_among (has_key (key_of p) ms) p ms refl
+
+holding_from : (failed : Option Ts) (p : Packet) (ms : Messages) → is_holding (Some (fate_from failed ms (key_of p))) ≡ true
+    → has_key (key_of p) (with_held (Some (fate_from failed ms (key_of p))) (Some p) ms) ≡ true
+holding_from None p ms holding = holding_among (has_key (key_of p) ms) p ms refl
+holding_from (Some time) p ms holding = holding_void (nat_le time.0 p.ts.0) time p ms holding
+
+holding_has : (late : Bool) (b : ℕ) (failed : Option Ts) (p : Packet) (ms : Messages)
+    → is_holding (Some (if late then Late (record { 0 = b }) else fate_from failed ms (key_of p))) ≡ true
+    → has_key (key_of p) (with_held (Some (if late then Late (record { 0 = b }) else fate_from failed ms (key_of p))) (Some p) ms) ≡ true
+holding_has true b failed p ms holding = cc
+holding_has false b failed p ms holding = holding_from failed p ms holding
 
 -- a reliable message is no best-effort one
 other_service : (k : PacketKind) → carries Reliable k ≡ true → carries BestEffort k ≡ false
@@ -78,12 +93,12 @@ one_message p is = rw is refl
 
 -- the fate of a record that brings a reliable message
 pub reliable_fate : (graph : Graph) (node : ℕ) (own : List Record) (r : Record) (p : Packet) → gets graph node own r ≡ Some p → carries Reliable p.kind ≡ true
-    → fate graph node own r ≡ Some (fate_of (barrier_at (plane_of Reliable) graph node own) (held Reliable graph node own) (key_of p))
+    → fate graph node own r ≡ Some (fate_of (barrier_at (plane_of Reliable) graph node own) (time_of p.src.0 (noted_hosts own)) (held Reliable graph node own) (key_of p))
 reliable_fate graph node own r p gets_is is =
     let best : got BestEffort graph node own r ≡ None = ap (message_of BestEffort) gets_is ∙ no_message p (other_service p.kind is) in
     let reliable : got Reliable graph node own r ≡ Some p = ap (message_of Reliable) gets_is ∙ one_message p is in
-    ap (λ (o : Option Packet). option_or (fate_for (barrier_at (plane_of BestEffort) graph node own) (held BestEffort graph node own) o) (fate_in Reliable graph node own r)) best
-    ∙ ap (fate_for (barrier_at (plane_of Reliable) graph node own) (held Reliable graph node own)) reliable
+    ap (λ (o : Option Packet). option_or (fate_for (barrier_at (plane_of BestEffort) graph node own) [] (held BestEffort graph node own) o) (fate_in Reliable graph node own r)) best
+    ∙ ap (fate_for (barrier_at (plane_of Reliable) graph node own) (noted_hosts own) (held Reliable graph node own)) reliable
 
 answered_has : (graph : Graph) (node : ℕ) (own : List Record) (r : Record) (p : Packet) → IsNodeStep graph node own r → gets graph node own r ≡ Some p
     → carries Reliable p.kind ≡ true → is_holding r.step.fate ≡ true → has_key (key_of p) (held Reliable graph node (r ∷ own)) ≡ true
@@ -91,10 +106,10 @@ answered_has graph node own r p step gets_is is holding =
     let b : ℕ = barrier_at (plane_of Reliable) graph node own in
     let ms : Messages = held Reliable graph node own in
     let reliable : Some p ≡ got Reliable graph node own r = sym (ap (message_of Reliable) gets_is ∙ one_message p is) in
-    let held_by : is_holding (Some (fate_of b ms (key_of p))) ≡ true =
+    let held_by : is_holding (Some (fate_of b (time_of p.src.0 (noted_hosts own)) ms (key_of p))) ≡ true =
     ap is_holding (sym (step.fate_is ∙ reliable_fate graph node own r p gets_is is)) ∙ holding in
-    subst (λ (o : Option Packet). has_key (key_of p) (with_held (fate_for b ms o) o ms) ≡ true) reliable
-    (holding_has (nat_lt p.ts.0 b) (has_key (key_of p) ms) b p ms refl held_by)
+    subst (λ (o : Option Packet). has_key (key_of p) (with_held (fate_for b (noted_hosts own) ms o) o ms) ≡ true) reliable
+    (holding_has (nat_lt p.ts.0 b) b (time_of p.src.0 (noted_hosts own)) p ms held_by)
 
 answer_true : (graph : Graph) (past : List Record) (r : Record) (n : ℕ) (p : Packet) → IsStep graph past r → is_own graph n r ≡ true
     → gets graph n (own graph n past) r ≡ Some p → carries Reliable p.kind ≡ true → is_holding r.step.fate ≡ true → HasHeld graph n (key_of p) (r ∷ past)

@@ -1,5 +1,5 @@
--- A record of a history is some node's own, or nobody's and quiet.
-use Rattle.std.proofs.Common.{◌≡◌, ◌⊎◌, ℕ, ◌==◌, not, Bool, true, false, List, [], refl, inl, inr, ap, arith}
+-- A record of a history is some node's own, or nobody's; then it puts no packet.
+use Rattle.std.proofs.Common.{◌≡◌, ◌⊎◌, ℕ, ◌==◌, not, Bool, true, false, List, [], refl, inl, inr, ap, ◌∙◌, arith}
 use Rattle.std.proofs.lemmas.Bool.{and_right}
 use Rattle.pipe_base.specs.declared.control.To.{To}
 use Rattle.pipe_base.specs.declared.control.To.TheVariants.{Node}
@@ -11,7 +11,9 @@ use Rattle.pipe_model.specs.declared.record.Record.{Record}
 use Rattle.pipe_model.specs.declared.record.Took.{Took}
 use Rattle.pipe_model.specs.declared.record.Took.TheVariants.{Message}
 use Rattle.pipe_model.specs.Acting.{acts, is_idle, is_own, is_to, reached}
+use Rattle.pipe_model.specs.Controller.{view}
 use Rattle.pipe_model.specs.Run.{IsStep}
+use Rattle.pipe_model.proofs.Decisions.{nobodys_put}
 
 same : (n : ℕ) → (n == n) ≡ true
 same n = grind arith
@@ -49,4 +51,4 @@ nobodys_or_own graph r = by_actor (is_idle r.step.outcome) graph r refl (actor g
 
 -- a record that is nobody's puts nothing
 pub quiet_puts : (graph : Graph) (past : List Record) (r : Record) → IsStep graph past r → IsNobodys graph r → r.step.put ≡ []
-quiet_puts graph past r step nobody = ap (λ (s : Step). s.put) (step.quiet nobody)
+quiet_puts graph past r step nobody = ap (λ (s : Step). s.put) (step.nobodys nobody) ∙ nobodys_put graph (view graph past) r.event r.step.outcome

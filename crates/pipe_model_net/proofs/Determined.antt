@@ -11,11 +11,11 @@ use Rattle.pipe_base.specs.declared.step.Fate.{Fate}
 use Rattle.pipe_base.specs.declared.step.Outcome.{Outcome}
 use Rattle.pipe_base.specs.declared.step.Step.{Step}
 use Rattle.pipe_base.specs.Graph.{Graph}
-use Rattle.pipe_base.specs.Step.{quiet_step}
 use Rattle.pipe_model.specs.declared.event.Event.{Event}
 use Rattle.pipe_model.specs.declared.record.Record.{Record}
 use Rattle.pipe_model.specs.declared.record.Took.{Took}
 use Rattle.pipe_model.specs.Acting.{is_own, own}
+use Rattle.pipe_model.specs.Controller.{nobodys_step, view}
 use Rattle.pipe_model.specs.Duties.{control, put, unrouted}
 use Rattle.pipe_model.specs.Logged.{logged}
 use Rattle.pipe_model.specs.Outcome.{took_of}
@@ -32,11 +32,11 @@ control_same graph n o e t a b down drop =
     let f : List (LinkId × Ts) → List LinkId → List Addressed = λ d l. control graph n o (of e t (record a { downed = d; dropped = l })) in
     ap (λ (d : List (LinkId × Ts)). f d a.dropped) down ∙ ap (λ (l : List LinkId). f b.downed l) drop
 
-logged_same : (graph : Graph) (n : ℕ) (o : List Record) (e : Event) (t : Took) (a b : Step) → a.downed ≡ b.downed → a.dropped ≡ b.dropped
+logged_same : (graph : Graph) (n : ℕ) (o : List Record) (e : Event) (t : Took) (a b : Step) → a.downed ≡ b.downed → a.dropped ≡ b.dropped → a.noted ≡ b.noted
     → logged graph n o (of e t a) ≡ logged graph n o (of e t b)
-logged_same graph n o e t a b down drop =
-    let f : List (LinkId × Ts) → List LinkId → List (Service × Entry) = λ d l. logged graph n o (of e t (record a { downed = d; dropped = l })) in
-    ap (λ (d : List (LinkId × Ts)). f d a.dropped) down ∙ ap (λ (l : List LinkId). f b.downed l) drop
+logged_same graph n o e t a b down drop note =
+    let f : List (LinkId × Ts) → List LinkId → List Announced → List (Service × Entry) = λ d l h. logged graph n o (of e t (record a { downed = d; dropped = l; noted = h })) in
+    ap (λ (d : List (LinkId × Ts)). f d a.dropped a.noted) down ∙ ap (λ (l : List LinkId). f b.downed l a.noted) drop ∙ ap (λ (h : List Announced). f b.downed b.dropped h) note
 
 put_same : (graph : Graph) (n : ℕ) (o : List Record) (e : Event) (t : Took) (a b : Step) → a.downed ≡ b.downed → a.dropped ≡ b.dropped
     → a.stamped ≡ b.stamped → a.fate ≡ b.fate → a.logged ≡ b.logged → put graph n o (of e t a) ≡ put graph n o (of e t b)
@@ -80,8 +80,9 @@ node_step_same graph n o e t a b sa sb out =
     let drop : a.dropped ≡ b.dropped = sa.dropped_is ∙ sym sb.dropped_is in
     let stamp : a.stamped ≡ b.stamped = sa.stamped_is ∙ sym sb.stamped_is in
     let fate : a.fate ≡ b.fate = sa.fate_is ∙ sym sb.fate_is in
-    let log : a.logged ≡ b.logged = sa.logged_is ∙ logged_same graph n o e t a b down drop ∙ sym sb.logged_is in
-    parts_same a b (sa.put_is ∙ put_same graph n o e t a b down drop stamp fate log ∙ sym sb.put_is) (sa.control_is ∙ control_same graph n o e t a b down drop ∙ sym sb.control_is) down drop stamp fate log (sa.noted_is ∙ sym sb.noted_is)
+    let note : a.noted ≡ b.noted = sa.noted_is ∙ sym sb.noted_is in
+    let log : a.logged ≡ b.logged = sa.logged_is ∙ logged_same graph n o e t a b down drop note ∙ sym sb.logged_is in
+    parts_same a b (sa.put_is ∙ put_same graph n o e t a b down drop stamp fate log ∙ sym sb.put_is) (sa.control_is ∙ control_same graph n o e t a b down drop ∙ sym sb.control_is) down drop stamp fate log note
     (sa.unrouted_is ∙ unrouted_same graph n o e t a b down drop stamp fate log ∙ sym sb.unrouted_is) out
 
 step_same : (graph : Graph) (past : List Record) (e : Event) (t : Took) (a b : Step) → IsStep graph past (of e t a) → IsStep graph past (of e t b) → a ≡ b
@@ -90,7 +91,7 @@ step_same graph past e t a b sa sb =
     elim (nobodys_or_own graph (of e t a)) [
       | inl quiet ↦
           let quiet_b : IsNobodys graph (of e t b) = subst (λ (x : Outcome). IsNobodys graph (of e t (record b { outcome = x }))) out quiet in
-          sa.quiet quiet ∙ ap quiet_step out ∙ sym (sb.quiet quiet_b)
+          sa.nobodys quiet ∙ ap (nobodys_step graph (view graph past) e) out ∙ sym (sb.nobodys quiet_b)
       | inr mine ↦
           let mine_b : is_own graph mine.0 (of e t b) ≡ true = subst (λ (x : Outcome). is_own graph mine.0 (of e t (record b { outcome = x })) ≡ true) out mine.1 in
           node_step_same graph mine.0 (own graph mine.0 past) e t a b (sa.node mine.0 mine.1) (sb.node mine.0 mine_b) out

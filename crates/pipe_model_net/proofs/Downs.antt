@@ -5,6 +5,7 @@ use Rattle.std.specs.List.{All, Contains}
 use Rattle.std.proofs.lemmas.List.Elements.{All-nil, All-cons, All-append, All-contains_itself, All-filter, All-head, All-tail, Contains-append_left, Contains-append_right}
 use Rattle.pipe_base.specs.declared.control.Addressed.{Addressed}
 use Rattle.pipe_base.specs.declared.control.Control.TheVariants.{Down}
+use Rattle.pipe_base.specs.declared.name.HostId.{HostId}
 use Rattle.pipe_base.specs.declared.name.LinkId.{LinkId}
 use Rattle.pipe_base.specs.declared.name.Ts.{Ts}
 use Rattle.pipe_base.specs.declared.step.Step.{Step}
@@ -14,11 +15,15 @@ use Rattle.pipe_model.specs.declared.event.Event.{Event}
 use Rattle.pipe_model.specs.declared.event.Event.TheVariants.{Tick}
 use Rattle.pipe_model.specs.declared.record.Record.{Record}
 use Rattle.pipe_model.specs.Acting.{is_own, own}
+use Rattle.pipe_model.specs.Controller.{view}
+use Rattle.pipe_model.specs.Decision.{after_decision, freeze, notice}
 use Rattle.pipe_model.specs.DownsTold.{AreDownsTrue, HasTold, IsDownTrue, control_put}
 use Rattle.pipe_model.specs.Duties.{control_of, down_told}
 use Rattle.pipe_model.specs.Marks.{mark}
 use Rattle.pipe_model.specs.Moments.{known_drops}
 use Rattle.pipe_model.specs.Run.{IsHistory, IsStep}
+use Rattle.pipe_model.specs.View.{View}
+use Rattle.pipe_model.proofs.Decisions.{nobodys_control}
 use Rattle.pipe_model.proofs.Links.{ComesIn, ins_come_in}
 use Rattle.pipe_model.proofs.Marks.{mark_stays}
 use Rattle.pipe_model.proofs.Own.{own_more, own_same}
@@ -89,10 +94,19 @@ puts_of_own graph past r node step mine =
     subst (All (IsMarkOf graph node (r ∷ o))) (sym (step.node node mine).control_is) (told_now graph node (r ∷ o) r.event) in
     λ k d lt. told_true graph past r node _ mine (All-contains_itself r.step.control k d lt) (marks_told k d lt)
 
+-- a decision tells the controller nothing
+no_down_frozen : (graph : Graph) (past : List Record) (l : LinkId) → IsDownTrue graph past (freeze graph l)
+no_down_frozen graph past l link value is = cc
+
+no_down_noticed : (graph : Graph) (past : List Record) (v : View) (h : HostId) → IsDownTrue graph past (notice v h)
+no_down_noticed graph past v h link value is = cc
+
 puts_true : (graph : Graph) (past : List Record) (r : Record) → IsStep graph past r → All (IsDownTrue graph (r ∷ past)) r.step.control
 puts_true graph past r step =
     elim (nobodys_or_own graph r) [
-      | inl quiet ↦ subst (All (IsDownTrue graph (r ∷ past))) (sym (ap (λ (s : Step). s.control) (step.quiet quiet))) (All-nil (IsDownTrue graph (r ∷ past)))
+      | inl nobody ↦ subst (All (IsDownTrue graph (r ∷ past))) (sym (ap (λ (s : Step). s.control) (step.nobodys nobody)))
+          (nobodys_control (IsDownTrue graph (r ∷ past)) graph (view graph past) r.event r.step.outcome (no_down_frozen graph (r ∷ past))
+          (no_down_noticed graph (r ∷ past) (after_decision graph (view graph past))))
       | inr mine ↦ puts_of_own graph past r mine.0 step mine.1
     ]
 

@@ -13,9 +13,9 @@ use Rattle.pipe_base.specs.Messages.{Messages, entry_of, from_barrier}
 use Rattle.pipe_base.proofs.KeyOrder.{insert_all}
 use Rattle.pipe_model.specs.declared.record.Record.{Record}
 use Rattle.pipe_model.specs.Acting.{is_own, own}
-use Rattle.pipe_model.specs.Fate.{fate_for, with_held, held, plane_of}
+use Rattle.pipe_model.specs.Fate.{failed_for, fate_for, with_held, held, plane_of}
 use Rattle.pipe_model.specs.Got.{carries, gets_of, got, is_beacon, key_of, message_of}
-use Rattle.pipe_model.specs.Logged.{passed_in, entries_of}
+use Rattle.pipe_model.specs.Logged.{passed_in, entries_of, standing}
 use Rattle.pipe_model.specs.MessagesSent.{IsMessageSent}
 use Rattle.pipe_model.specs.Moments.{received, moments_of, barrier_at}
 use Rattle.pipe_model.specs.Order.{WasSent, LoggedWasSent, IsGenuine}
@@ -78,7 +78,7 @@ held_sent_now : (service : Service) (graph : Graph) (past : List Record) (r : Re
     → All (SentTo service n past) (held service graph n (own graph n past)) → All (SentTo service n past) (held service graph n (r ∷ own graph n past))
 held_sent_now service graph past r n run step before =
     let o : List Record = own graph n past in
-    held_more (SentTo service n past) (fate_for (barrier_at (plane_of service) graph n o) (held service graph n o) (got service graph n o r))
+    held_more (SentTo service n past) (fate_for (barrier_at (plane_of service) graph n o) (failed_for service o) (held service graph n o) (got service graph n o r))
     (got service graph n o r) (held service graph n o) before (λ p is. got_sent service graph past r n (received o r) p run step refl is)
 
 later : (service : Service) (n : ℕ) (past : List Record) (r : Record) (ms : Messages) → All (SentTo service n past) ms → All (SentTo service n (r ∷ past)) ms
@@ -101,8 +101,9 @@ passed_sent : (service : Service) (graph : Graph) (past : List Record) (r : Reco
     → All (SentTo service n past) (passed_in service graph n (own graph n past) r)
 passed_sent service graph past r n run step =
     let o : List Record = own graph n past in
-    All-filter _ (SentTo service n past) (from_barrier (barrier_at (plane_of service) graph n o) (held service graph n (r ∷ o)))
-    (All-filter _ (SentTo service n past) (held service graph n (r ∷ o)) (held_sent_now service graph past r n run step (held_sent service graph past n run)))
+    All-filter _ (SentTo service n past) (from_barrier (barrier_at (plane_of service) graph n o) (standing service graph n (r ∷ o)))
+    (All-filter _ (SentTo service n past) (standing service graph n (r ∷ o))
+    (All-filter _ (SentTo service n past) (held service graph n (r ∷ o)) (held_sent_now service graph past r n run step (held_sent service graph past n run))))
 
 logged_sent : (graph : Graph) (past : List Record) (r : Record) (n : ℕ) (service : Service) → IsHistory graph past → IsStep graph past r → LoggedWasSent graph n service r past
 logged_sent graph past r n service run step mine =

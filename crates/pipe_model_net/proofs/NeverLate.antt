@@ -1,11 +1,15 @@
 -- Where links keep order no best-effort message is late: each that waits is at least all fields received on its link and all
 -- that wait before it, and a barrier is at most what was received on each link that is up.
-use Rattle.std.proofs.Common.{◌≡◌, ℕ, ◌≤◌, ◌==◌, ◌&&◌, not, nat_lt, if◌then◌else◌, Bool, true, false, List, [], ◌∷◌, ◌++◌, Option, None, Some, refl, inl, inr, sym, subst, ap, ◌∙◌, arith, le_trans}
+use Rattle.std.proofs.Common.{◌≡◌, ℕ, ◌≤◌, ◌==◌, ◌&&◌, not, nat_lt, if◌then◌else◌, Bool, true, false, List, [], ◌∷◌, ◌++◌, Option, None, Some, refl, inl, inr, sym, subst, ap, ◌∙◌, arith, le_trans, nat_le}
 use Rattle.std.specs.List.{All}
 use Rattle.std.specs.Option.{option_or}
 use Rattle.std.proofs.lemmas.Bool.Decides.{nat_tests}
 use Rattle.std.proofs.lemmas.List.{append-nil}
 use Rattle.std.proofs.lemmas.List.Elements.{All-nil, All-cons, All-head, All-tail, All-weaker}
+use Rattle.pipe_base.specs.Failed.{time_of}
+use Rattle.pipe_base.specs.Fate.{fate_among, fate_from}
+use Rattle.pipe_base.specs.declared.control.Announced.{Announced}
+use Rattle.pipe_base.specs.declared.message.Key.{Key}
 use Rattle.pipe_base.specs.declared.message.Service.TheVariants.{BestEffort, Reliable}
 use Rattle.pipe_base.specs.declared.name.Ts.{Ts}
 use Rattle.pipe_base.specs.declared.packet.Packet.{Packet}
@@ -13,19 +17,21 @@ use Rattle.pipe_base.specs.declared.packet.PacketKind.{PacketKind}
 use Rattle.pipe_base.specs.declared.packet.PacketKind.TheVariants.{Plain}
 use Rattle.pipe_base.specs.declared.packet.Plane.TheVariants as plane
 use Rattle.pipe_base.specs.declared.step.Fate.{Fate}
-use Rattle.pipe_base.specs.declared.step.Fate.TheVariants.{Held, Late, Repeat}
+use Rattle.pipe_base.specs.declared.step.Fate.TheVariants.{Held, Late, Repeat, Discarded}
 use Rattle.pipe_base.specs.declared.step.Outcome.{Outcome}
 use Rattle.pipe_base.specs.declared.step.Step.{Step}
 use Rattle.pipe_base.specs.Graph.{Graph, ins_of, is_host}
 use Rattle.pipe_base.specs.Messages.{Messages, has_key}
 use Rattle.pipe_base.proofs.BarrierLaws.{barrier-le_register}
+use Rattle.pipe_model.proofs.Decisions.{nobodys_fate}
+use Rattle.pipe_model.specs.Controller.{view}
 use Rattle.pipe_model.specs.declared.event.Event.{Event}
 use Rattle.pipe_model.specs.declared.record.Record.{Record}
 use Rattle.pipe_model.specs.Acting.{is_own, own}
 use Rattle.pipe_model.specs.Event.{IsOfGraph}
 use Rattle.pipe_model.specs.Fate.{fate, fate_for, fate_in, held}
 use Rattle.pipe_model.specs.Got.{carries, gets_of, got, is_beacon, key_of, message_of}
-use Rattle.pipe_model.specs.Moments.{barrier_at, moments_of, received}
+use Rattle.pipe_model.specs.Moments.{barrier_at, moments_of, received, noted_hosts}
 use Rattle.pipe_model.specs.NeverLate.{AreLinksOrdered, AreOfGraph, IsNeverLate, IsOfOldest, is_late, took_best}
 use Rattle.pipe_model.specs.OnLink.{AreFieldsPromised, greatest_received, tail_promise}
 use Rattle.pipe_model.specs.Run.{IsHistory}
@@ -92,18 +98,30 @@ run_settled graph (r ∷ past) run known ordered link =
 
 -- ---- no message is late
 
-chosen_fate : (late repeated : Bool) (barrier : Ts) → late ≡ false → is_late (Some (if late then Late barrier else if repeated then Repeat else Held)) ≡ false
-chosen_fate true repeated barrier never = cc
-chosen_fate false true barrier never = refl
-chosen_fate false false barrier never = refl
+among_fate : (repeated : Bool) → is_late (Some (if repeated then Repeat else Held)) ≡ false
+among_fate true = refl
+among_fate false = refl
+
+void_fate : (void : Bool) (time : Ts) (ms : Messages) (key : Key) → is_late (Some (if void then Discarded time else fate_among ms key)) ≡ false
+void_fate true time ms key = refl
+void_fate false time ms key = among_fate (has_key key ms)
+
+from_fate : (failed : Option Ts) (ms : Messages) (key : Key) → is_late (Some (fate_from failed ms key)) ≡ false
+from_fate None ms key = among_fate (has_key key ms)
+from_fate (Some time) ms key = void_fate (nat_le time.0 key.ts.0) time ms key
+
+chosen_fate : (late : Bool) (barrier : Ts) (f : Fate) → late ≡ false → is_late (Some f) ≡ false → is_late (Some (if late then Late barrier else f)) ≡ false
+chosen_fate true barrier f never other = cc
+chosen_fate false barrier f never other = other
 
 not_below : (barrier ts : ℕ) → barrier ≤ ts → nat_lt ts barrier ≡ false
 not_below barrier ts le = grind (arith, nat_tests, le)
 
-in_time : (barrier : ℕ) (ms : Messages) (o : Option Packet) → ((p : Packet) → o ≡ Some p → barrier ≤ p.ts.0) → is_late (fate_for barrier ms o) ≡ false
-in_time barrier ms None above = refl
-in_time barrier ms (Some p) above =
-    chosen_fate (nat_lt p.ts.0 barrier) (has_key (key_of p) ms) (record { 0 = barrier }) (not_below barrier p.ts.0 (above p refl))
+in_time : (barrier : ℕ) (failed : List Announced) (ms : Messages) (o : Option Packet) → ((p : Packet) → o ≡ Some p → barrier ≤ p.ts.0) → is_late (fate_for barrier failed ms o) ≡ false
+in_time barrier failed ms None above = refl
+in_time barrier failed ms (Some p) above =
+    chosen_fate (nat_lt p.ts.0 barrier) (record { 0 = barrier }) (fate_from (time_of p.src.0 failed) ms (key_of p)) (not_below barrier p.ts.0 (above p refl))
+    (from_fate (time_of p.src.0 failed) ms (key_of p))
 
 -- the barrier before a receipt is at most what was received on its link
 barrier_before : (graph : Graph) (past : List Record) (node : ℕ) (q : ℕ × Packet) → IsReceipt graph past node q
@@ -131,7 +149,7 @@ best_in_time : (graph : Graph) (past : List Record) (r : Record) (node : ℕ) �
     → is_late (fate_in BestEffort graph node (own graph node past) r) ≡ false
 best_in_time graph past r node step mine settled =
     let o : List Record = own graph node past in
-    in_time (barrier_at plane.BestEffort graph node o) (held BestEffort graph node o) (got BestEffort graph node o r)
+    in_time (barrier_at plane.BestEffort graph node o) [] (held BestEffort graph node o) (got BestEffort graph node o r)
     (λ p got. got_above graph past r node (received o r) p step mine settled refl got)
 
 -- a record that took a best-effort message brings no reliable one
@@ -163,7 +181,7 @@ fate_in_time : (graph : Graph) (past : List Record) (r : Record) (node : ℕ) �
 fate_in_time graph past r node step mine settled best =
     let o : List Record = own graph node past in
     let only : fate graph node o r ≡ option_or (fate_in BestEffort graph node o r) None =
-    ap (λ (g : Option Packet). option_or (fate_in BestEffort graph node o r) (fate_for (barrier_at plane.Commit graph node o) (held Reliable graph node o) g))
+    ap (λ (g : Option Packet). option_or (fate_in BestEffort graph node o r) (fate_for (barrier_at plane.Commit graph node o) (noted_hosts o) (held Reliable graph node o) g))
     (took_no_reliable graph node o r best) in
     ap is_late only ∙ late_or_none (fate_in BestEffort graph node o r) (best_in_time graph past r node step mine settled)
 
@@ -171,7 +189,7 @@ never_late_now : (graph : Graph) (past : List Record) (r : Record) → IsOrdered
     → is_late r.step.fate ≡ false
 never_late_now graph past r step settled best =
     elim (nobodys_or_own graph r) [
-      | inl quiet ↦ ap (λ (s : Step). is_late s.fate) (step.rules.quiet quiet)
+      | inl quiet ↦ ap (λ (s : Step). is_late s.fate) (step.rules.nobodys quiet) ∙ ap is_late (nobodys_fate graph (view graph past) r.event r.step.outcome)
       | inr mine ↦ ap is_late (step.rules.node mine.0 mine.1).fate_is ∙ fate_in_time graph past r mine.0 step mine.1 settled best
     ]
 

@@ -13,9 +13,9 @@ use Rattle.pipe_base.specs.Graph.{Graph}
 use Rattle.pipe_base.specs.Messages.{Messages, Before, IsInOrder, entry_of, from_barrier, below_barrier}
 use Rattle.pipe_base.proofs.KeyOrder.{order_with, order_filter}
 use Rattle.pipe_model.specs.declared.record.Record.{Record}
-use Rattle.pipe_model.specs.Fate.{plane_of, fate_for, with_held, held}
+use Rattle.pipe_model.specs.Fate.{failed_for, plane_of, fate_for, with_held, held}
 use Rattle.pipe_model.specs.Got.{key_of, got}
-use Rattle.pipe_model.specs.Logged.{passed_in, log, entries_of}
+use Rattle.pipe_model.specs.Logged.{passed_in, log, entries_of, standing}
 use Rattle.pipe_model.specs.Moments.{barrier_at}
 use Rattle.pipe_model.specs.Order.{IsRising}
 use Rattle.pipe_model.specs.Run.{IsNodeHistory, IsNodeStep}
@@ -48,7 +48,7 @@ order_more _ _ ms order = order
 pub held_in_order : (service : Service) (graph : Graph) (node : ℕ) (own : List Record) → IsInOrder (held service graph node own)
 held_in_order service graph node [] = tt
 held_in_order service graph node (r ∷ own) =
-    order_more (fate_for (barrier_at (plane_of service) graph node own) (held service graph node own) (got service graph node own r))
+    order_more (fate_for (barrier_at (plane_of service) graph node own) (failed_for service own) (held service graph node own) (got service graph node own r))
     (got service graph node own r) (held service graph node own) (held_in_order service graph node own)
 
 -- what a record passes of a service: in order, from the barrier before on, and below the barrier after
@@ -58,7 +58,7 @@ barrier_of service graph node own = barrier_at (plane_of service) graph node own
 passed_rises : (service : Service) (graph : Graph) (node : ℕ) (own : List Record) (r : Record) → IsRising (map entry_of (passed_in service graph node own r))
 passed_rises service graph node own r =
     rising_entries (passed_in service graph node own r)
-    (order_filter _ _ (order_filter _ (held service graph node (r ∷ own)) (held_in_order service graph node (r ∷ own))))
+    (order_filter _ _ (order_filter _ _ (order_filter _ (held service graph node (r ∷ own)) (held_in_order service graph node (r ∷ own)))))
 
 is_below : (bound : ℕ) (m : Key × List ℕ) → nat_lt m.0.ts.0 bound ≡ true → m.0.ts.0 < bound
 is_below bound m is = grind (arith, nat_tests, is)
@@ -70,7 +70,7 @@ passed_below : (service : Service) (graph : Graph) (node : ℕ) (own : List Reco
     → All (Below (barrier_of service graph node (r ∷ own))) (map entry_of (passed_in service graph node own r))
 passed_below service graph node own r =
     let bound : ℕ = barrier_of service graph node (r ∷ own) in
-    let ms : Messages = from_barrier (barrier_of service graph node own) (held service graph node (r ∷ own)) in
+    let ms : Messages = from_barrier (barrier_of service graph node own) (standing service graph node (r ∷ own)) in
     All-map (Below bound) entry_of (below_barrier bound ms)
     (All-weaker (λ (m : Key × List ℕ). nat_lt m.0.ts.0 bound ≡ true) (λ (m : Key × List ℕ). m.0.ts.0 < bound) (is_below bound) (below_barrier bound ms)
     (filter_passes (λ (m : Key × List ℕ). nat_lt m.0.ts.0 bound) ms))
@@ -79,7 +79,7 @@ passed_from : (service : Service) (graph : Graph) (node : ℕ) (own : List Recor
     → All (λ e. barrier_of service graph node own ≤ e.key.ts.0) (map entry_of (passed_in service graph node own r))
 passed_from service graph node own r =
     let bound : ℕ = barrier_of service graph node own in
-    let ms : Messages = held service graph node (r ∷ own) in
+    let ms : Messages = standing service graph node (r ∷ own) in
     All-map (λ (e : Entry). bound ≤ e.key.ts.0) entry_of (passed_in service graph node own r)
     (All-filter _ (λ (m : Key × List ℕ). bound ≤ m.0.ts.0) (from_barrier bound ms)
     (All-weaker (λ (m : Key × List ℕ). nat_le bound m.0.ts.0 ≡ true) (λ (m : Key × List ℕ). bound ≤ m.0.ts.0) (is_from bound) (from_barrier bound ms)

@@ -11,6 +11,7 @@ ghost use Rattle.pipe_base.specs.declared.name.Ts.{Ts};
 ghost use Rattle.pipe_base.specs.declared.packet.Plane.{Plane};
 ghost use Rattle.pipe_base.specs.declared.packet.Plane.TheVariants.{Commit};
 ghost use Rattle.pipe_base.specs.Barrier.{register};
+ghost use Rattle.pipe_base.specs.Failed.{is_void};
 ghost use Rattle.pipe_base.specs.Graph.{Graph, ins_of};
 ghost use Rattle.pipe_base.specs.Limits.{most_unsettled};
 ghost use Rattle.pipe_base.specs.Messages.{has_key};
@@ -21,7 +22,7 @@ ghost use Rattle.pipe_model.specs.declared.record.Record.{Record};
 ghost use Rattle.pipe_model.specs.AllOrNone.{has_logged};
 ghost use Rattle.pipe_model.specs.Clock.{next, promise};
 ghost use Rattle.pipe_model.specs.Fate.{held};
-ghost use Rattle.pipe_model.specs.LateMessage.{got_recall, is_void};
+ghost use Rattle.pipe_model.specs.LateMessage.{got_recall};
 ghost use Rattle.pipe_model.specs.Logged.{log};
 ghost use Rattle.pipe_model.specs.Marks.{mark, marks};
 ghost use Rattle.pipe_model.specs.Moments.{barrier_at, moments_of, noted_hosts};
@@ -94,5 +95,5 @@ pub fn windows_hold()
 /// the message was taken back or its sender is noted as failed by then.
 pub fn passed_messages_are_logged()
     ensures { (graph : Graph) (node : ℕ) (own : List Record) (key : Key) → IsNodeHistory graph node own → has_key key (held Reliable graph node own) ≡ true
-        → got_recall graph node key own ≡ false → is_void key (noted_hosts own) ≡ false → key.ts.0 < barrier_at Commit graph node own → has_logged key own ≡ true }
+        → got_recall graph node key own ≡ false → is_void (noted_hosts own) key ≡ false → key.ts.0 < barrier_at Commit graph node own → has_logged key own ≡ true }
 {}
