@@ -1,6 +1,7 @@
 -- Lists of announced hosts, and the times in them.
 use Rattle.std.proofs.Common.{◌≡◌, ℕ, ◌<◌, ◌≤◌, ◌==◌, ◌||◌, nat_le, zero, suc, if◌then◌else◌, Bool, true, false, List, [], ◌∷◌, ◌++◌, length, drop, Option, None, Some, refl, sym, ap, ◌∙◌, subst, append-nil, append_assoc, eqb-true, true≢false, arith}
 use Rattle.std.specs.List.{All, list_any}
+use Rattle.std.proofs.lemmas.Bool.{and_parts}
 use Rattle.std.proofs.lemmas.Bool.Decides.{nat_tests}
 use Rattle.std.proofs.lemmas.List.Elements.{All-head, All-tail}
 use Rattle.std.proofs.lemmas.List.Folds.{list_any-append}
@@ -8,18 +9,14 @@ use Rattle.pipe_base.specs.declared.control.Announced.{Announced}
 use Rattle.pipe_base.specs.declared.message.Key.{Key}
 use Rattle.pipe_base.specs.declared.name.Ts.{Ts}
 use Rattle.pipe_base.specs.Failed.{is_announced, is_from, is_void, past_known, time_of}
+use Rattle.pipe_base.specs.Messages.{same_key}
+use Rattle.pipe_model.proofs.Void.{not_void_before, time_first}
 use Rattle.pipe_model_atomic.specs.Begins.{Begins}
 
 -- ---- times
 
-pub time_stays : (host : ℕ) (time : Ts) (xs ys : List Announced) → time_of host xs ≡ Some time → time_of host (xs ++ ys) ≡ Some time
-time_stays host time [] ys is = cc
-time_stays host time (a ∷ xs) ys is = by (a.host.0 == host) is (time_stays host time xs ys)
-  where
-    by : (b : Bool) → (if b then Some a.time else time_of host xs) ≡ Some time → (time_of host xs ≡ Some time → time_of host (xs ++ ys) ≡ Some time)
-        → (if b then Some a.time else time_of host (xs ++ ys)) ≡ Some time
-    by true here later = here
-    by false there later = later there
+pub one_time : (a b : Ts) → Some a ≡ Some b → a ≡ b
+one_time a b same = cc
 
 -- a host without an entry has the time of what follows
 pub time_after : (host : ℕ) (xs ys : List Announced) → is_announced host xs ≡ false → time_of host (xs ++ ys) ≡ time_of host ys
@@ -73,7 +70,7 @@ begins_more xs ys zs first second =
     (first.0 ++ second.0, sym (append_assoc xs first.0 second.0) ∙ ap (λ (l : List Announced). l ++ second.0) first.1 ∙ second.1)
 
 pub time_begins : (host : ℕ) (time : Ts) (xs ys : List Announced) → Begins xs ys → time_of host xs ≡ Some time → time_of host ys ≡ Some time
-time_begins host time xs ys begins is = subst (λ (l : List Announced). time_of host l ≡ Some time) begins.1 (time_stays host time xs begins.0 is)
+time_begins host time xs ys begins is = subst (λ (l : List Announced). time_of host l ≡ Some time) begins.1 (time_first host xs begins.0 time is)
 
 or_false : (a b : Bool) → (a || b) ≡ false → a ≡ false
 or_false true b is = is
@@ -100,22 +97,9 @@ known_and_told known list all mine told =
 
 -- ---- what is void
 
-void_by : (key : Key) (xs ys : List Announced) (o : Option Ts) → ((time : Ts) → time_of key.src.0 xs ≡ Some time → time_of key.src.0 ys ≡ Some time)
-    → time_of key.src.0 xs ≡ o → is_from o key.ts ≡ true → is_void ys key ≡ true
-void_by key xs ys None more is void = absurd (true≢false (sym void))
-void_by key xs ys (Some time) more is void = ap (λ (o : Option Ts). is_from o key.ts) (more time is) ∙ void
-
--- what is void by a list is void by one that begins with it
-pub void_later : (key : Key) (xs ys : List Announced) → Begins xs ys → is_void xs key ≡ true → is_void ys key ≡ true
-void_later key xs ys begins void =
-    void_by key xs ys (time_of key.src.0 xs) (λ time is. time_begins key.src.0 time xs ys begins is) refl void
-
-pub not_void_before : (key : Key) (xs ys : List Announced) → Begins xs ys → is_void ys key ≡ false → is_void xs key ≡ false
-not_void_before key xs ys begins isnt = by (is_void xs key) refl
-  where
-    by : (b : Bool) → is_void xs key ≡ b → is_void xs key ≡ false
-    by true void = absurd (true≢false (sym (void_later key xs ys begins void) ∙ isnt))
-    by false fine = fine
+-- what is not void by a list is not void by one that it begins with
+pub not_void_first : (key : Key) (xs ys : List Announced) → Begins xs ys → is_void ys key ≡ false → is_void xs key ≡ false
+not_void_first key xs ys begins isnt = not_void_before xs begins.0 key (ap (λ (l : List Announced). is_void l key) begins.1 ∙ isnt)
 
 -- a message is void where its sender has a time that is at most the timestamp, and only there
 from_time : (time ts : Ts) → is_from (Some time) ts ≡ true → time.0 ≤ ts.0
@@ -140,3 +124,10 @@ void_noted key xs ys begins noted void =
     let at = has_time key.src.0 xs noted in
     let same : time_of key.src.0 ys ≡ Some at.0 = time_begins key.src.0 at.0 xs ys begins at.1 in
     ap (λ (o : Option Ts). is_from o key.ts) (at.1 ∙ sym same) ∙ void
+
+-- messages with the same key are void together
+pub same_void : (failed : List Announced) (a b : Key) → same_key a b ≡ true → is_void failed a ≡ is_void failed b
+same_void failed a b same =
+    let parts = and_parts (a.ts.0 == b.ts.0) (a.src.0 == b.src.0) same in
+    ap (λ (n : ℕ). is_from (time_of n failed) a.ts) (eqb-true a.src.0 b.src.0 parts.1)
+    ∙ ap (λ (n : ℕ). is_from (time_of b.src.0 failed) (record { 0 = n })) (eqb-true a.ts.0 b.ts.0 parts.0)
