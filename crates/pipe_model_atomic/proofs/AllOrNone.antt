@@ -1,24 +1,22 @@
 -- All or none: what is void is logged by nobody; of the rest, what is unsettled is passed by nobody, and what is prepared was held
 -- by all, so it is logged by all that passed it.
-use Rattle.std.proofs.Common.{◌≡◌, ◌⊎◌, ℕ, ◌<◌, ◌≤◌, ◌||◌, not, Bool, true, false, List, [], ◌∷◌, Option, None, Some, get_or, length, refl, inl, inr, sym, ap, ◌∙◌, true≢false, arith, le_trans}
+use Rattle.std.proofs.Common.{◌≡◌, ℕ, ◌<◌, ◌≤◌, ◌||◌, not, Bool, true, false, List, [], ◌∷◌, get_or, length, refl, inl, inr, sym, ap, ◌∙◌, true≢false, arith}
 use Rattle.std.specs.List.{All, list_any}
-use Rattle.std.proofs.lemmas.Bool.{or_cases}
-use Rattle.std.proofs.lemmas.List.Elements.{All-head, All-tail, All-weaker}
+use Rattle.std.proofs.lemmas.List.Elements.{All-head, All-tail}
 use Rattle.pipe_base.specs.declared.control.Announced.{Announced}
 use Rattle.pipe_base.specs.declared.message.Entry.{Entry}
 use Rattle.pipe_base.specs.declared.message.Key.{Key}
 use Rattle.pipe_base.specs.declared.message.Service.TheVariants.{Reliable}
-use Rattle.pipe_base.specs.declared.name.Ts.{Ts}
-use Rattle.pipe_base.specs.Failed.{is_announced, is_void, time_of}
+use Rattle.pipe_base.specs.Failed.{is_announced, is_void}
 use Rattle.pipe_base.specs.Graph.{Graph}
 use Rattle.pipe_base.specs.Messages.{same_key}
 use Rattle.pipe_base.specs.Scattering.{Scattering, SenderCall, begun}
-use Rattle.pipe_base.specs.Settled.{is_settled, unsettled}
+use Rattle.pipe_base.specs.Settled.{is_settled}
 use Rattle.pipe_paths.proofs.Listed.{filter_all}
 use Rattle.pipe_base.specs.Reach.{JoinsAllHosts}
 use Rattle.pipe_model.specs.declared.record.Record.{Record}
 use Rattle.pipe_model.specs.Acting.{own}
-use Rattle.pipe_model.specs.AllOrNone.{IsAllOrNone, IsInAllOrNone, IsPassed, has_logged, key_from}
+use Rattle.pipe_model.specs.AllOrNone.{IsAllOrNone, IsInAllOrNone, IsPassed, key_from}
 use Rattle.pipe_model.specs.Clock.{promise}
 use Rattle.pipe_model.specs.Controller.{announced}
 use Rattle.pipe_model.specs.Correct.{IsCorrect}

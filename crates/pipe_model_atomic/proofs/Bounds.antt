@@ -23,7 +23,6 @@ use Rattle.pipe_model.specs.Moments.{barrier_at, moments_of, noted_hosts}
 use Rattle.pipe_model.specs.NodePromise.{node_promise}
 use Rattle.pipe_model.specs.Run.{IsHistory}
 use Rattle.pipe_model.specs.Sender.{sender_calls}
-use Rattle.pipe_model.specs.View.{View}
 use Rattle.pipe_model.proofs.Links.{comes_by}
 use Rattle.pipe_model.proofs.Marks.{mark_is_frozen}
 use Rattle.pipe_model.proofs.Own.{node_history}
@@ -138,9 +137,9 @@ module _ (graph : Graph) (past : List Record) (run : IsHistory graph past) (hold
   leads_or_bounded node end (l ∷ ls) leads =
       elim (leaves_or_bounded node end l ls leads.1 leads.2) [
         | inl leaves ↦ elim (leads_or_bounded (head_of graph l) end ls leads.2) [
-            | inl rest ↦ inl (leads.0, leaves, rest)
-            | inr bound ↦ inr bound
-          ]
+          | inl rest ↦ inl (leads.0, leaves, rest)
+          | inr bound ↦ inr bound
+        ]
         | inr bound ↦ inr bound
       ]
 
@@ -148,9 +147,9 @@ module _ (graph : Graph) (past : List Record) (run : IsHistory graph past) (hold
   way_or_bounded start end way =
       elim (leaves_or_bounded start end way.first way.rest way.leaves way.leads) [
         | inl leaves ↦ elim (leads_or_bounded (head_of graph way.first) end way.rest way.leads) [
-            | inl rest ↦ inl (record { first = way.first; rest = way.rest; leaves = leaves; leads = rest; short = way.short })
-            | inr bound ↦ inr bound
-          ]
+          | inl rest ↦ inl (record { first = way.first; rest = way.rest; leaves = leaves; leads = rest; short = way.short })
+          | inr bound ↦ inr bound
+        ]
         | inr bound ↦ inr bound
       ]
 

@@ -1,23 +1,22 @@
 -- A present host has noted a host that was announced, or is cut off from it: it was when the host was announced, and reports
 -- stay.
-use Rattle.std.proofs.Common.{◌≡◌, ◌⊎◌, ℕ, ◌<◌, ◌≤◌, ◌==◌, ◌&&◌, ◌||◌, not, nat_le, nat_lt, if◌then◌else◌, Bool, true, false, List, [], ◌∷◌, ◌++◌, length, Option, None, Some, refl, inl, inr, sym, subst, ap, ◌∙◌, eqb-true, true≢false, arith}
+use Rattle.std.proofs.Common.{◌≡◌, ◌⊎◌, ℕ, ◌<◌, ◌≤◌, ◌==◌, ◌&&◌, ◌||◌, not, nat_le, if◌then◌else◌, Bool, true, false, List, ◌∷◌, ◌++◌, Option, None, Some, refl, inl, inr, sym, subst, ap, ◌∙◌, eqb-true, true≢false, arith}
 use Rattle.std.specs.Prelude.{is_some}
 use Rattle.std.proofs.lemmas.Bool.{and_parts, or_left}
 use Rattle.std.proofs.lemmas.Bool.Decides.{nat_tests}
 use Rattle.std.proofs.lemmas.List.Folds.{list_any-append}
 use Rattle.pipe_base.specs.declared.control.Announced.{Announced}
-use Rattle.pipe_base.specs.declared.name.LinkId.{LinkId}
 use Rattle.pipe_base.specs.declared.name.Ts.{Ts}
 use Rattle.pipe_base.specs.Failed.{is_announced, time_of}
-use Rattle.pipe_base.specs.Graph.{Graph, is_host}
-use Rattle.pipe_base.specs.Reach.{feeds, reaches}
+use Rattle.pipe_base.specs.Graph.{Graph}
+use Rattle.pipe_base.specs.Reach.{reaches}
 use Rattle.pipe_failtime.proofs.CutLaws.{cut_reaches_none}
 use Rattle.pipe_failtime.proofs.TimeLaws.{time_in_words}
 use Rattle.pipe_paths.proofs.PathLaws.{HasAll}
 use Rattle.pipe_paths.proofs.Tests.{and_both, not_from}
 use Rattle.pipe_model.specs.declared.record.Record.{Record}
 use Rattle.pipe_model.specs.Acting.{is_own, own}
-use Rattle.pipe_model.specs.Controller.{announced, is_live, is_member, view}
+use Rattle.pipe_model.specs.Controller.{announced, view}
 use Rattle.pipe_model.specs.Decision.{after_doom, newly_announced}
 use Rattle.pipe_model.specs.Moments.{noted_hosts}
 use Rattle.pipe_model.specs.View.{View, intact, is_due, is_kept}
@@ -27,7 +26,7 @@ use Rattle.pipe_model_atomic.specs.Present.{IsPresent}
 use Rattle.pipe_model_atomic.proofs.Announcing.{IsGoing, all_due_going, newly_going}
 use Rattle.pipe_model_atomic.proofs.Reaching.{AreFedIn, reaches_fed, reaches_fewer}
 use Rattle.pipe_model_atomic.proofs.Times.{has_time, is_timed, one_time, time_after, time_begins, time_gives}
-use Rattle.pipe_model_atomic.proofs.Views.{announced_more, members_stay, reported, trusted_before, view_after}
+use Rattle.pipe_model_atomic.proofs.Views.{announced_more, member_in, members_stay, trusted_before, view_after}
 
 -- ---- reports stay, so open links grow fewer
 
@@ -108,9 +107,6 @@ both_false : (a b : Bool) → (a || b) ≡ false → (a ≡ false) × (b ≡ fal
 both_false true b is = absurd (true≢false is)
 both_false false b is = (refl, is)
 
-host_below : (node hosts : ℕ) → nat_lt node hosts ≡ true → node < hosts
-host_below node hosts is = grind (arith, nat_tests, is)
-
 newly_cut : (graph : Graph) (v : View) (host other : ℕ) (time : Ts) → is_announced host v.announced ≡ false → other < graph.hosts → v.members other ≡ true
     → time_of host (v.announced ++ newly_announced graph v) ≡ Some time → is_announced other (v.announced ++ newly_announced graph v) ≡ false
     → reaches graph (is_open v time) host other ≡ false
@@ -137,7 +133,7 @@ noted_or_cut_by true graph past r host other time holds was is present =
     ]
 noted_or_cut_by false graph past r host other time holds wasnt is present =
     let v : View = view graph past in
-    let other_in : other < graph.hosts = host_below other graph.hosts (sym (members_stay graph (r ∷ past) other) ∙ present.member) in
+    let other_in : other < graph.hosts = member_in graph (r ∷ past) other present.member in
     let member : v.members other ≡ true = (present_before graph past r other present).member in
     let never : time_of host v.announced ≡ Some time → ⊥ = λ old. true≢false (sym (is_timed host time v.announced old) ∙ wasnt) in
     inr (view_after

@@ -16,7 +16,7 @@ use Rattle.pipe_base.specs.Reach.{JoinsAllHosts}
 use Rattle.pipe_paths.proofs.ReachLaws.{reaches_alike}
 use Rattle.pipe_model.specs.declared.record.Record.{Record}
 use Rattle.pipe_model.specs.Acting.{own}
-use Rattle.pipe_model.specs.Controller.{announced, is_live, is_member, view}
+use Rattle.pipe_model.specs.Controller.{announced, is_live, view}
 use Rattle.pipe_model.specs.Decision.{after_doom, newly_announced}
 use Rattle.pipe_model.specs.Moments.{moments_of, received}
 use Rattle.pipe_model.specs.Run.{IsHistory, IsNodeHistory}
@@ -36,7 +36,7 @@ use Rattle.pipe_model_atomic.proofs.Once.{keeps_announced_once}
 use Rattle.pipe_model_atomic.proofs.Promised.{keeps_times_promised}
 use Rattle.pipe_model_atomic.proofs.Reports.{keeps_reports_marks}
 use Rattle.pipe_model_atomic.proofs.Times.{has_time, time_gives}
-use Rattle.pipe_model_atomic.proofs.Views.{live_stay, members_stay, view_after}
+use Rattle.pipe_model_atomic.proofs.Views.{live_stay, member_in, members_stay, view_after}
 use Rattle.pipe_model_atomic.proofs.VoidLogged.{keeps_none_void}
 
 -- ---- what counts is in use: nothing is dropped
@@ -68,16 +68,10 @@ live_used graph past run link live =
 below_host : (node hosts : ℕ) → node < hosts → nat_lt node hosts ≡ true
 below_host node hosts lt = grind (arith, nat_tests, lt)
 
-host_below : (node hosts : ℕ) → nat_lt node hosts ≡ true → node < hosts
-host_below node hosts is = grind (arith, nat_tests, is)
-
-host_in : (graph : Graph) (past : List Record) (host : ℕ) → is_member graph past host ≡ true → host < graph.hosts
-host_in graph past host member = host_below host graph.hosts (sym (members_stay graph past host) ∙ member)
-
 members_joined : (graph : Graph) (past : List Record) → JoinsAllHosts graph → AreMembersJoined graph past
 members_joined graph past joined a b one other =
     reaches_alike graph (is_live graph past) every_link a b (λ link known. live_stay graph past link ∙ below_host link (length graph.links) known)
-    ∙ joined a b (host_in graph past a one) (host_in graph past b other)
+    ∙ joined a b (member_in graph past a one) (member_in graph past b other)
 
 present_members : (graph : Graph) (past : List Record) → ArePresentMembers graph past
 present_members graph past host known present = members_stay graph past host ∙ below_host host graph.hosts known

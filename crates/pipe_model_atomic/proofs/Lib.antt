@@ -2,6 +2,7 @@ pub mod AllOrNone
 pub mod Announcing
 pub mod Bounds
 pub mod CutOff
+pub mod CutPaths
 pub mod Holds
 pub mod LateMessage
 pub mod Noted

@@ -1,5 +1,5 @@
 -- Notices tell what was announced from the first on, so hosts note it in this order.
-use Rattle.std.proofs.Common.{◌≡◌, ℕ, Bool, true, false, if◌then◌else◌, List, [], ◌∷◌, ◌++◌, Option, None, Some, filter, refl, inl, inr, sym, subst, ap, ◌∙◌, append-nil}
+use Rattle.std.proofs.Common.{◌≡◌, ℕ, Bool, true, false, if◌then◌else◌, List, [], ◌∷◌, ◌++◌, Option, None, Some, filter, refl, inl, inr, sym, subst, ap, append-nil}
 use Rattle.std.specs.Prelude.{flat_map}
 use Rattle.std.specs.List.{All}
 use Rattle.std.proofs.lemmas.List.Elements.{All-append, All-cons, All-nil}
@@ -23,9 +23,9 @@ use Rattle.pipe_model.specs.Acting.{is_own, own}
 use Rattle.pipe_model.specs.Controller.{after_event, announced, nobodys_step, view}
 use Rattle.pipe_model.specs.Decision.{after_decision, freeze, notice}
 use Rattle.pipe_model.specs.Duties.{control_of, down_told}
-use Rattle.pipe_model.specs.Marks.{mark, newly_noted, noted_by, told_hosts}
+use Rattle.pipe_model.specs.Marks.{mark, noted_by, told_hosts}
 use Rattle.pipe_model.specs.Moments.{known_drops, noted_hosts}
-use Rattle.pipe_model.specs.Run.{IsHistory, IsNodeStep, IsStep}
+use Rattle.pipe_model.specs.Run.{IsHistory, IsStep}
 use Rattle.pipe_model.specs.View.{View}
 use Rattle.pipe_model.proofs.Decisions.{messages_each}
 use Rattle.pipe_model.proofs.Own.{own_more, own_same}

@@ -1,9 +1,7 @@
 -- The time of a host that is announced is at most what it promises: it was received on a link that it feeds.
-use Rattle.std.proofs.Common.{◌≡◌, ℕ, ◌≤◌, ◌==◌, ◌&&◌, Bool, true, false, List, ◌∷◌, ◌++◌, Some, refl, inl, inr, sym, subst, ap, ◌∙◌, eqb-true, le_trans, true≢false, arith}
+use Rattle.std.proofs.Common.{◌≡◌, ℕ, ◌≤◌, ◌==◌, ◌&&◌, Bool, true, false, List, ◌∷◌, Some, refl, inl, inr, sym, subst, ap, ◌∙◌, eqb-true, le_trans, true≢false, arith}
 use Rattle.std.proofs.lemmas.Bool.{and_parts, or_cases}
-use Rattle.pipe_base.specs.declared.control.Announced.{Announced}
 use Rattle.pipe_base.specs.declared.name.Ts.{Ts}
-use Rattle.pipe_base.specs.declared.packet.Plane.TheVariants.{Commit}
 use Rattle.pipe_base.specs.Failed.{is_announced, time_of}
 use Rattle.pipe_base.specs.Graph.{Graph, is_half, tail_of}
 use Rattle.pipe_base.specs.Reach.{feeds, reaches}
@@ -21,7 +19,7 @@ use Rattle.pipe_model.proofs.Promises.{promise_rises}
 use Rattle.pipe_model_atomic.specs.Sentences.{Bounding}
 use Rattle.pipe_model_atomic.specs.TimesPromised.{AreTimesPromised}
 use Rattle.pipe_model_atomic.proofs.Announcing.{IsGoing, newly_going}
-use Rattle.pipe_model_atomic.proofs.Bounds.{commit_of, half_passes_on, host_promises, promise_bounds, promised_of, report_received}
+use Rattle.pipe_model_atomic.proofs.Bounds.{half_passes_on, host_promises, promise_bounds, promised_of, report_received}
 use Rattle.pipe_model_atomic.proofs.Times.{has_time, is_timed, one_time, time_after, time_begins, time_gives}
 use Rattle.pipe_model_atomic.proofs.Views.{announced_more, view_after}
 

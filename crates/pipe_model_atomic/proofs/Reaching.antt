@@ -79,8 +79,8 @@ module _ (graph : Graph) (by large other : ℕ → Bool) (start : ℕ) (more : H
         leads.0,
         record { known = leads.1.known; used = used; begins = leads.1.begins },
         walk (front ++ l ∷ []) (head_of graph l) end ls
-        (path_append graph large start node (head_of graph l) front (l ∷ []) leads.0 path (leaves_more graph by large node l more leads.1, refl))
-        (omega (arith, short, size)) leads.2,
+            (path_append graph large start node (head_of graph l) front (l ∷ []) leads.0 path (leaves_more graph by large node l more leads.1, refl))
+            (omega (arith, short, size)) leads.2,
       )
 
   way_in : (end : ℕ) → IsWay graph by start end → IsWay graph other start end
@@ -93,7 +93,7 @@ module _ (graph : Graph) (by large other : ℕ → Bool) (start : ℕ) (more : H
       begins = way.leaves.begins;
     };
     leads = walk (way.first ∷ []) (head_of graph way.first) end way.rest (leaves_more graph by large start way.first more way.leaves, refl)
-    (omega (arith, way.short)) way.leads;
+        (omega (arith, way.short)) way.leads;
     short = way.short;
   }
 

@@ -1,12 +1,11 @@
 -- The controller has reports of links that count, and each is the mark of its link: a report was told, and a mark stays.
-use Rattle.std.proofs.Common.{◌≡◌, ℕ, ◌==◌, if◌then◌else◌, Bool, true, false, List, [], ◌∷◌, Option, None, Some, refl, sym, subst, ap, ◌∙◌, eqb-true}
+use Rattle.std.proofs.Common.{◌≡◌, ℕ, ◌==◌, if◌then◌else◌, Bool, true, false, List, ◌∷◌, Option, Some, refl, sym, subst, ◌∙◌, eqb-true}
 use Rattle.std.proofs.lemmas.Bool.{and_parts}
 use Rattle.pipe_base.specs.declared.control.Addressed.{Addressed}
 use Rattle.pipe_base.specs.declared.control.Control.TheVariants.{Down}
 use Rattle.pipe_base.specs.declared.name.LinkId.{LinkId}
 use Rattle.pipe_base.specs.declared.name.Ts.{Ts}
 use Rattle.pipe_base.specs.Graph.{Graph, head_of}
-use Rattle.pipe_base.specs.Reported.{is_reported}
 use Rattle.pipe_model.specs.declared.record.Record.{Record}
 use Rattle.pipe_model.specs.declared.record.Took.TheVariants.{Message}
 use Rattle.pipe_model.specs.Acting.{is_own, own}
@@ -20,7 +19,7 @@ use Rattle.pipe_model.proofs.Own.{own_more, own_same}
 use Rattle.pipe_model_net.proofs.ControlMessages.{taken_message}
 use Rattle.pipe_model_net.proofs.Downs.{downs_true}
 use Rattle.pipe_model_atomic.specs.ReportsAreMarks.{AreReportsMarks, IsReportTrue}
-use Rattle.pipe_model_atomic.proofs.Views.{live_stay, reported, view_after}
+use Rattle.pipe_model_atomic.proofs.Views.{live_stay, view_after}
 
 marked_by : (b : Bool) (graph : Graph) (node : ℕ) (past : List Record) (r : Record) (link : ℕ) (value : Ts) → is_own graph node r ≡ b
     → mark (own graph node past) link ≡ Some value → mark (own graph node (r ∷ past)) link ≡ Some value

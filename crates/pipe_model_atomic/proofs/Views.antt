@@ -1,6 +1,7 @@
 -- What a record does to what the controller knows: one report more, a decision, or nothing.
-use Rattle.std.proofs.Common.{◌≡◌, ℕ, ◌==◌, if◌then◌else◌, nat_lt, not, Bool, true, false, List, [], ◌∷◌, ◌++◌, length, Option, Some, refl, sym, ap, ◌∙◌, append-nil, true≢false}
+use Rattle.std.proofs.Common.{◌≡◌, ℕ, ◌<◌, ◌==◌, if◌then◌else◌, nat_lt, not, Bool, true, false, List, [], ◌∷◌, length, Some, refl, sym, ap, ◌∙◌, append-nil, true≢false, arith}
 use Rattle.std.proofs.lemmas.Bool.{and_parts}
+use Rattle.std.proofs.lemmas.Bool.Decides.{nat_tests}
 use Rattle.pipe_base.specs.declared.control.Addressed.{Addressed}
 use Rattle.pipe_base.specs.declared.control.Control.{Control}
 use Rattle.pipe_base.specs.declared.control.Control.TheVariants.{Down}
@@ -60,6 +61,13 @@ members_stay graph [] host = refl
 members_stay graph (r ∷ past) host =
     let before : is_member graph past host ≡ is_host graph host = members_stay graph past host in
     view_after (λ (v : View). v.members host ≡ is_host graph host) graph r.event r.took (view graph past) (λ m link value took down is. before) (λ decides. before) before
+
+host_below : (node hosts : ℕ) → nat_lt node hosts ≡ true → node < hosts
+host_below node hosts is = grind (arith, nat_tests, is)
+
+-- so who takes part is a host of the graph
+pub member_in : (graph : Graph) (past : List Record) (host : ℕ) → is_member graph past host ≡ true → host < graph.hosts
+member_in graph past host member = host_below host graph.hosts (sym (members_stay graph past host) ∙ member)
 
 pub live_stay : (graph : Graph) (past : List Record) (link : ℕ) → is_live graph past link ≡ nat_lt link (length graph.links)
 live_stay graph [] link = refl

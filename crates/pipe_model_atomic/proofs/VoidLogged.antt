@@ -1,6 +1,6 @@
 -- Nothing void is logged: what a host logs is not void by what it has noted, and its barrier is at most the time of a host that it
 -- has not noted.
-use Rattle.std.proofs.Common.{◌≡◌, ℕ, ◌<◌, ◌≤◌, not, Bool, true, false, List, [], ◌∷◌, ◌++◌, map, get_or, refl, sym, subst, ap, ◌∙◌, true≢false, arith}
+use Rattle.std.proofs.Common.{◌≡◌, ℕ, ◌<◌, ◌≤◌, not, Bool, true, false, List, ◌∷◌, map, get_or, refl, sym, subst, ap, ◌∙◌, true≢false, arith}
 use Rattle.std.specs.List.{All}
 use Rattle.std.proofs.lemmas.List.Elements.{All-append, All-filter, All-map, All-weaker, filter_passes}
 use Rattle.pipe_base.specs.declared.control.Announced.{Announced}
@@ -11,11 +11,12 @@ use Rattle.pipe_base.specs.declared.packet.Plane.TheVariants.{Commit}
 use Rattle.pipe_base.specs.Failed.{is_announced, is_void}
 use Rattle.pipe_base.specs.Graph.{Graph}
 use Rattle.pipe_base.specs.Messages.{Messages, entry_of, from_barrier}
+use Rattle.pipe_paths.proofs.Tests.{not_is}
 use Rattle.pipe_model.specs.declared.record.Record.{Record}
 use Rattle.pipe_model.specs.Acting.{is_own, own}
 use Rattle.pipe_model.specs.Controller.{announced}
 use Rattle.pipe_model.specs.Fate.{held}
-use Rattle.pipe_model.specs.Logged.{entries_of, log, logged, passed_in, standing}
+use Rattle.pipe_model.specs.Logged.{entries_of, log, passed_in, standing}
 use Rattle.pipe_model.specs.Moments.{barrier_at, noted_hosts}
 use Rattle.pipe_model.specs.Run.{IsHistory, IsNodeStep}
 use Rattle.pipe_model.proofs.Entries.{entries_logged}
@@ -37,10 +38,6 @@ use Rattle.pipe_model_atomic.proofs.Times.{not_void_first, void_gives, void_note
 abbrev IsFree : List Announced → Entry → Type 0
 IsFree failed e = is_void failed e.key ≡ false
 
-not_true : (b : Bool) → not b ≡ true → b ≡ false
-not_true true is = absurd (true≢false (sym is))
-not_true false is = refl
-
 passed_free : (graph : Graph) (node : ℕ) (own : List Record) (r : Record) → All (IsFree (noted_hosts (r ∷ own))) (map entry_of (passed_in Reliable graph node own r))
 passed_free graph node own r =
     let failed : List Announced = noted_hosts (r ∷ own) in
@@ -50,7 +47,7 @@ passed_free graph node own r =
     (All-filter _ (λ (m : Key × List ℕ). is_void failed m.0 ≡ false) (from_barrier (barrier_at Commit graph node own) stands)
     (All-filter _ (λ (m : Key × List ℕ). is_void failed m.0 ≡ false) stands
     (All-weaker (λ (m : Key × List ℕ). not (is_void failed m.0) ≡ true) (λ (m : Key × List ℕ). is_void failed m.0 ≡ false)
-    (λ (m : Key × List ℕ) is. not_true (is_void failed m.0) is) stands
+    (λ (m : Key × List ℕ) is. not_is (is_void failed m.0) is) stands
     (filter_passes (λ (m : Key × List ℕ). not (is_void failed m.0)) ms))))
 
 logged_free : (graph : Graph) (node : ℕ) (own : List Record) (r : Record) → IsNodeStep graph node own r
