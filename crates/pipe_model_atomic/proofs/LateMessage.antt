@@ -1,28 +1,33 @@
 -- No reliable message is late of itself: the barrier that passed it had to wait until its scattering was settled, and then its
 -- receiver had held it.
-use Rattle.std.proofs.Common.{◌≡◌, ℕ, ◌<◌, ◌≤◌, nat_lt, if◌then◌else◌, Bool, true, false, List, [], ◌∷◌, Option, None, Some, refl, inl, sym, subst, ap, ◌∙◌, arith}
+use Rattle.std.proofs.Common.{◌≡◌, ℕ, ◌<◌, ◌≤◌, nat_le, nat_lt, if◌then◌else◌, Bool, true, false, List, [], ◌∷◌, Option, None, Some, refl, inl, inr, sym, subst, ap, ◌∙◌, true≢false, arith}
 use Rattle.std.proofs.lemmas.Bool.Decides.{nat_tests}
 use Rattle.std.proofs.lemmas.List.Elements.{All-contains, All-tail}
 use Rattle.pipe_base.specs.declared.message.Entry.{Entry}
+use Rattle.pipe_base.specs.declared.message.Key.{Key}
 use Rattle.pipe_base.specs.declared.message.Service.TheVariants.{Reliable}
 use Rattle.pipe_base.specs.declared.name.HostId.{HostId}
 use Rattle.pipe_base.specs.declared.name.Ts.{Ts}
 use Rattle.pipe_base.specs.declared.packet.Packet.{Packet}
-use Rattle.pipe_base.specs.declared.step.Fate.TheVariants.{Held, Late, Repeat}
+use Rattle.pipe_base.specs.declared.step.Fate.TheVariants.{Discarded, Held, Late, Repeat}
+use Rattle.pipe_base.specs.Failed.{is_announced, is_void, time_of}
+use Rattle.pipe_base.specs.Fate.{fate_among, fate_from}
 use Rattle.pipe_base.specs.Graph.{Graph}
-use Rattle.pipe_base.specs.Messages.{entry_of, has_key}
+use Rattle.pipe_base.specs.Messages.{Messages, entry_of, has_key}
 use Rattle.pipe_base.specs.Reach.{JoinsAllHosts}
 use Rattle.pipe_base.specs.Scattering.{Scattering, SenderCall}
 use Rattle.pipe_base.specs.Settled.{is_prepared, is_settled}
 use Rattle.pipe_model.specs.declared.record.Record.{Record}
 use Rattle.pipe_model.specs.Acknowledged.{HasHeld}
 use Rattle.pipe_model.specs.Acting.{is_own, own}
-use Rattle.pipe_model.specs.Controller.{announced, is_announced}
+use Rattle.pipe_model.specs.AllOrNone.{key_from}
+use Rattle.pipe_model.specs.Controller.{announced}
+use Rattle.pipe_model.specs.Correct.{IsCorrect}
 use Rattle.pipe_model.specs.Event.{IsOfGraph}
 use Rattle.pipe_model.specs.Fate.{held}
 use Rattle.pipe_model.specs.Got.{carries, gets, got, key_of, message_of}
 use Rattle.pipe_model.specs.LateMessage.{AreLateKnown, IsKnown, IsNoneLateOfItself}
-use Rattle.pipe_model.specs.Moments.{received}
+use Rattle.pipe_model.specs.Moments.{noted_hosts, received}
 use Rattle.pipe_model.specs.NeverLate.{AreOfGraph, is_late}
 use Rattle.pipe_model.specs.Order.{WasSent}
 use Rattle.pipe_model.specs.PreparedHeld.{IsHeldByAll}
@@ -30,19 +35,33 @@ use Rattle.pipe_model.specs.Run.{IsHistory, IsStep}
 use Rattle.pipe_model.specs.Sender.{sender_calls}
 use Rattle.pipe_model_net.proofs.Acks.{reliable_fate}
 use Rattle.pipe_model_net.proofs.Genuine.{got_sent}
+use Rattle.pipe_model_atomic.specs.Present.{IsPresent}
 use Rattle.pipe_model_atomic.specs.Sentences.{Sentences}
 use Rattle.pipe_model_atomic.proofs.AllOrNone.{begun_by, not_passed}
-use Rattle.pipe_model_atomic.proofs.Bounds.{commit_of}
+use Rattle.pipe_model_atomic.proofs.Bounds.{commit_of, time_bounds}
 use Rattle.pipe_model_atomic.proofs.Holds.{sentences_hold}
 use Rattle.pipe_model_atomic.proofs.SentBegun.{IsBegunFor, sender_in, sent_begun}
+use Rattle.pipe_model_atomic.proofs.Times.{void_gives, void_noted}
+use Rattle.pipe_model_atomic.proofs.Views.{trusted_before}
 
 -- ---- a late message is below the barrier
 
-late_by : (late again : Bool) (barrier ts : ℕ) → nat_lt ts barrier ≡ late → is_late (Some (if late then Late (record { 0 = barrier }) else if again then Repeat else Held)) ≡ true
-    → ts < barrier
-late_by true again barrier ts is late = grind (arith, nat_tests, is)
-late_by false true barrier ts is late = cc
-late_by false false barrier ts is late = cc
+not_late_among : (again : Bool) → is_late (Some (if again then Repeat else Held)) ≡ false
+not_late_among true = refl
+not_late_among false = refl
+
+not_late_from : (o : Option Ts) (ms : Messages) (key : Key) → is_late (Some (fate_from o ms key)) ≡ false
+not_late_from None ms key = not_late_among (has_key key ms)
+not_late_from (Some time) ms key = by (nat_le time.0 key.ts.0)
+  where
+    by : (b : Bool) → is_late (Some (if b then Discarded time else fate_among ms key)) ≡ false
+    by true = refl
+    by false = not_late_among (has_key key ms)
+
+late_by : (late : Bool) (barrier : ℕ) (o : Option Ts) (ms : Messages) (key : Key) → nat_lt key.ts.0 barrier ≡ late
+    → is_late (Some (if late then Late (record { 0 = barrier }) else fate_from o ms key)) ≡ true → key.ts.0 < barrier
+late_by true barrier o ms key is late = grind (arith, nat_tests, is)
+late_by false barrier o ms key is late = absurd (true≢false (sym late ∙ not_late_from o ms key))
 
 -- the packet that brings a message, and that it is one of the service
 message_in : (b : Bool) (q p : Packet) → carries Reliable q.kind ≡ b → (if b then Some q else None) ≡ Some p → (Some q ≡ Some p) × (carries Reliable p.kind ≡ true)
@@ -60,7 +79,7 @@ late_below graph past r host p step mine brings late =
     let barrier : ℕ = commit_of graph past host in
     let from = brought (gets graph host o r) p brings in
     let fate_is = (step.node host mine).fate_is ∙ reliable_fate graph host o r p from.0 from.1 in
-    late_by (nat_lt p.ts.0 barrier) (has_key (key_of p) (held Reliable graph host o)) barrier p.ts.0 refl (sym (ap is_late fate_is) ∙ late)
+    late_by (nat_lt p.ts.0 barrier) barrier (time_of p.src.0 (noted_hosts o)) (held Reliable graph host o) (key_of p) refl (sym (ap is_late fate_is) ∙ late)
 
 -- ---- a scattering that a correct host has passed is settled, and was held there
 
@@ -75,39 +94,66 @@ held_at graph past host e holds b settled =
     All-contains (λ (d : HostId × List ℕ). HasHeld graph d.0.0 (record { ts = b.scattering.ts; src = record { 0 = src } }) past) b.scattering.dests (record { 0 = host }, e.body) by_all b.listed in
     subst (λ (ts : Ts). HasHeld graph host (record { ts = ts; src = record { 0 = src } }) past) b.stamp here
 
-passed_held : (graph : Graph) (past : List Record) (host : ℕ) (e : Entry) (settled : Bool) → Sentences graph past → host < graph.hosts
-    → is_announced host (announced past) ≡ false → e.key.src.0 < graph.hosts
+passed_held : (graph : Graph) (past : List Record) (host : ℕ) (e : Entry) (settled : Bool) → Sentences graph past → IsPresent graph past host → e.key.src.0 < graph.hosts
+    → is_void (announced graph past) e.key ≡ false
     → (b : IsBegunFor graph past host e) → is_settled (sender_calls graph e.key.src.0 (own graph e.key.src.0 past)) b.scattering ≡ settled
     → e.key.ts.0 < commit_of graph past host → HasHeld graph host e.key past
-passed_held graph past host e true holds host_in present src_in b is passed = held_at graph past host e holds b is
-passed_held graph past host e false holds host_in present src_in b is passed =
+passed_held graph past host e true holds present src_in valid b is passed = held_at graph past host e holds b is
+passed_held graph past host e false holds present src_in valid b is passed =
     let src : ℕ = e.key.src.0 in
+    let same_valid : is_void (announced graph past) (key_from src b.scattering) ≡ false =
+    subst (λ (ts : Ts). is_void (announced graph past) (record { ts = ts; src = record { 0 = src } }) ≡ false) (sym b.stamp) valid in
     let low : commit_of graph past host ≤ b.scattering.ts.0 =
-    All-contains (λ (s : Scattering). is_settled (sender_calls graph src (own graph src past)) s ≡ false → commit_of graph past host ≤ s.ts.0) (begun_by graph past src)
-    b.scattering (not_passed graph past holds src host src_in host_in present) b.begun is in
+    All-contains
+    (λ (s : Scattering). is_void (announced graph past) (key_from src s) ≡ false → is_settled (sender_calls graph src (own graph src past)) s ≡ false → commit_of graph past host ≤ s.ts.0)
+    (begun_by graph past src) b.scattering (not_passed graph past holds src host src_in present) b.begun same_valid is in
     let stamp : b.scattering.ts.0 ≡ e.key.ts.0 = ap (λ (ts : Ts). ts.0) b.stamp in
     absurd (omega (arith, low, stamp, passed))
 
+-- a host that has passed a void message has noted its sender by then
+passed_noted : (noted : Bool) (graph : Graph) (past : List Record) (host : ℕ) (key : Key) → IsHistory graph past → Sentences graph past → IsPresent graph past host
+    → is_void (announced graph past) key ≡ true → is_announced key.src.0 (noted_hosts (own graph host past)) ≡ noted → key.ts.0 < commit_of graph past host
+    → is_void (noted_hosts (own graph host past)) key ≡ true
+passed_noted true graph past host key run holds present void noted passed =
+    void_noted key (noted_hosts (own graph host past)) (announced graph past) (holds.noted_first host) noted void
+passed_noted false graph past host key run holds present void unnoted passed =
+    let at = void_gives key (announced graph past) void in
+    let low : commit_of graph past host ≤ at.0.0 = time_bounds graph past run holds.bounding key.src.0 host at.0 at.1 present unnoted in
+    absurd (omega (arith, low, at.2, passed))
+
 -- ---- along the run
 
-late_known_at : (graph : Graph) (past : List Record) (r : Record) (host : ℕ) (p : Packet) → JoinsAllHosts graph → IsHistory graph past → AreOfGraph graph past
-    → IsStep graph past r → host < graph.hosts → is_announced host (announced past) ≡ false → is_own graph host r ≡ true → got Reliable graph host (own graph host past) r ≡ Some p
-    → is_late r.step.fate ≡ true → IsKnown graph host (own graph host past) (key_of p)
-late_known_at graph past r host p joined run known step host_in present mine brings late =
-    let e : Entry = entry_of (key_of p, p.body) in
-    let sent : WasSent Reliable host e past = got_sent Reliable graph past r host (received (own graph host past) r) p run step refl brings in
-    let b : IsBegunFor graph past host e = sent_begun graph past host e sent in
-    inl (passed_held graph past host e (is_settled (sender_calls graph p.src.0 (own graph p.src.0 past)) b.scattering) (sentences_hold graph past joined run) host_in present
-    (sender_in graph past host e known sent) b refl (late_below graph past r host p step mine brings late))
+late_known_by : (void : Bool) (graph : Graph) (past : List Record) (host : ℕ) (e : Entry) → IsHistory graph past → Sentences graph past → IsPresent graph past host
+    → e.key.src.0 < graph.hosts → is_void (announced graph past) e.key ≡ void → IsBegunFor graph past host e → e.key.ts.0 < commit_of graph past host
+    → IsKnown graph host (own graph host past) e.key
+late_known_by true graph past host e run holds present src_in void b passed =
+    inr (inr (passed_noted (is_announced e.key.src.0 (noted_hosts (own graph host past))) graph past host e.key run holds present void refl passed))
+late_known_by false graph past host e run holds present src_in valid b passed =
+    inl (passed_held graph past host e (is_settled (sender_calls graph e.key.src.0 (own graph e.key.src.0 past)) b.scattering) holds present src_in valid b refl passed)
 
--- nobody is announced, so who is not announced at the end was not announced before
-late_known : (graph : Graph) (end past : List Record) → JoinsAllHosts graph → IsHistory graph past → AreOfGraph graph past → AreLateKnown graph end past
-late_known graph end [] joined run known = tt
-late_known graph end (r ∷ past) joined run known =
-    let before : AreOfGraph graph past = All-tail (λ (x : Record). IsOfGraph graph x.event) r past known in (
-      late_known graph end past joined run.0 before,
-      λ host correct mine p brings late. late_known_at graph past r host p joined run.0 before run.1 correct.host_in refl mine brings late,
+late_known_at : (graph : Graph) (past : List Record) (r : Record) (host : ℕ) (p : Packet) → JoinsAllHosts graph → IsHistory graph past → AreOfGraph graph past
+    → IsStep graph past r → host < graph.hosts → is_announced host (announced graph past) ≡ false → is_own graph host r ≡ true
+    → got Reliable graph host (own graph host past) r ≡ Some p → is_late r.step.fate ≡ true → IsKnown graph host (own graph host past) (key_of p)
+late_known_at graph past r host p joined run known step host_in trusted mine brings late =
+    let e : Entry = entry_of (key_of p, p.body) in
+    let holds : Sentences graph past = sentences_hold graph past joined run in
+    let sent : WasSent Reliable host e past = got_sent Reliable graph past r host (received (own graph host past) r) p run step refl brings in
+    late_known_by (is_void (announced graph past) e.key) graph past host e run holds
+    (record { member = holds.bounding.present_are_members host host_in trusted; trusted = trusted })
+    (sender_in graph past host e known sent) refl (sent_begun graph past host e sent) (late_below graph past r host p step mine brings late)
+
+-- who is correct at the end was not announced before
+abbrev IsTrustedStill : Graph → List Record → List Record → Type 0
+IsTrustedStill graph end past = (host : ℕ) → IsCorrect graph end host → is_announced host (announced graph past) ≡ false
+
+late_known : (graph : Graph) (end past : List Record) → JoinsAllHosts graph → IsHistory graph past → AreOfGraph graph past → IsTrustedStill graph end past → AreLateKnown graph end past
+late_known graph end [] joined run known trusted = tt
+late_known graph end (r ∷ past) joined run known trusted =
+    let before : AreOfGraph graph past = All-tail (λ (x : Record). IsOfGraph graph x.event) r past known in
+    let trusted_then : IsTrustedStill graph end past = λ host correct. trusted_before graph past r host (trusted host correct) in (
+      late_known graph end past joined run.0 before trusted_then,
+      λ host correct mine p brings late. late_known_at graph past r host p joined run.0 before run.1 correct.host_in (trusted_then host correct) mine brings late,
     )
 
 pub none_late : (graph : Graph) (past : List Record) → JoinsAllHosts graph → IsHistory graph past → AreOfGraph graph past → IsNoneLateOfItself graph past
-none_late graph past joined run known = late_known graph past past joined run known
+none_late graph past joined run known = late_known graph past past joined run known (λ host correct. correct.trusted)

@@ -1,5 +1,16 @@
 pub mod AllOrNone
+pub mod Announcing
 pub mod Bounds
+pub mod CutOff
+pub mod CutPaths
 pub mod Holds
 pub mod LateMessage
+pub mod Noted
+pub mod Once
+pub mod Promised
+pub mod Reaching
+pub mod Reports
 pub mod SentBegun
+pub mod Times
+pub mod Views
+pub mod VoidLogged

@@ -1,5 +1,15 @@
+pub mod AnnouncedAreMembers
+pub mod AnnouncedOnce
+pub mod Begins
 pub mod LiveAreUsed
 pub mod MembersJoined
+pub mod NoneVoidLogged
+pub mod NotedFirst
+pub mod NotedOrCutOff
+pub mod NoticesBegin
+pub mod Present
 pub mod PresentAreMembers
+pub mod ReportsAreMarks
 pub mod Sentences
+pub mod TimesPromised
 pub mod UnsettledAbove

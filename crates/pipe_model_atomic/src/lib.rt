@@ -2,20 +2,24 @@
 //! all their logs or in none, and no reliable message is late of itself. It rests on a few sentences that hold at every moment.
 #![tactic(auto)]
 
-ghost use Rattle.std.specs.Prelude.{◌≡◌, ◌≤◌, ℕ, List};
+ghost use Rattle.std.specs.Prelude.{◌≡◌, ◌≤◌, ◌↔◌, ℕ, false, List, ◌∷◌, ◌++◌, Some};
+ghost use Rattle.pipe_base.specs.declared.name.Ts.{Ts};
 ghost use Rattle.pipe_base.specs.declared.packet.Plane.TheVariants.{Commit};
-ghost use Rattle.pipe_base.specs.Graph.{Graph};
+ghost use Rattle.pipe_base.specs.Failed.{is_announced, time_of};
+ghost use Rattle.pipe_base.specs.Graph.{Graph, IsGraph};
 ghost use Rattle.pipe_base.specs.Path.{IsPath};
 ghost use Rattle.pipe_base.specs.Reach.{JoinsAllHosts};
 ghost use Rattle.pipe_model.specs.declared.record.Record.{Record};
 ghost use Rattle.pipe_model.specs.Acting.{own};
 ghost use Rattle.pipe_model.specs.AllOrNone.{IsAllOrNone};
-ghost use Rattle.pipe_model.specs.Controller.{is_live};
+ghost use Rattle.pipe_model.specs.Controller.{announced, is_live, view};
 ghost use Rattle.pipe_model.specs.LateMessage.{IsNoneLateOfItself};
-ghost use Rattle.pipe_model.specs.Moments.{barrier_at};
+ghost use Rattle.pipe_model.specs.Moments.{barrier_at, noted_hosts};
 ghost use Rattle.pipe_model.specs.NeverLate.{AreOfGraph};
 ghost use Rattle.pipe_model.specs.NodePromise.{node_promise};
 ghost use Rattle.pipe_model.specs.Run.{IsHistory};
+ghost use Rattle.pipe_model_atomic.specs.NotedOrCutOff.{AreReportedPaths, IsCutOff};
+ghost use Rattle.pipe_model_atomic.specs.Present.{IsPresent};
 ghost use Rattle.pipe_model_atomic.specs.Sentences.{Sentences};
 ghost use Rattle.pipe_model_atomic.specs.UnsettledAbove.{AreUnsettledAbove};
 
@@ -28,6 +32,27 @@ pub fn sentences_hold()
 pub fn promises_bound_barriers()
     ensures { (graph : Graph) (past : List Record) → Sentences graph past → (start end : ℕ) (path : List ℕ) → IsPath graph (is_live graph past) start end path
         → barrier_at Commit graph end (own graph end past) ≤ node_promise Commit graph start (own graph start past) }
+{}
+
+/// A report bounds the commit barriers of all hosts that a path over its link leads to.
+pub fn reports_bound_barriers()
+    ensures { (graph : Graph) (past : List Record) → IsHistory graph past → Sentences graph past → (start end link : ℕ) (value : Ts) (before after : List ℕ)
+        → IsPath graph (is_live graph past) start end (before ++ link ∷ after) → (view graph past).reports link ≡ Some value
+        → barrier_at Commit graph end (own graph end past) ≤ value.0 }
+{}
+
+/// The commit barrier of a present host that has not noted a host that was announced as failed is at most the time of that
+/// host.
+pub fn times_bound_barriers()
+    ensures { (graph : Graph) (past : List Record) → IsHistory graph past → Sentences graph past → (host other : ℕ) (time : Ts)
+        → time_of host (announced graph past) ≡ Some time → IsPresent graph past other → is_announced host (noted_hosts (own graph other past)) ≡ false
+        → barrier_at Commit graph other (own graph other past) ≤ time.0 }
+{}
+
+/// A host is cut off from another from a time on exactly where each path by links that count has a link with a report of at most
+/// this time.
+pub fn cut_off_hosts_have_reported_paths()
+    ensures { (graph : Graph) (past : List Record) (host other : ℕ) (time : Ts) → IsGraph graph → IsCutOff graph past host time other ↔ AreReportedPaths graph past host time other }
 {}
 
 /// While a scattering of a host that was not announced as failed is unsettled, no commit barrier of a host that takes part is
@@ -43,7 +68,7 @@ pub fn every_run_is_all_or_none()
 {}
 
 /// In every run of events of such a network no reliable message is late of itself: one that comes late at a correct host was
-/// held there before.
+/// held there before, or its sender is noted there as failed by then.
 pub fn no_reliable_message_is_late_of_itself()
     ensures { (graph : Graph) (past : List Record) → JoinsAllHosts graph → IsHistory graph past → AreOfGraph graph past → IsNoneLateOfItself graph past }
 {}
