@@ -19,5 +19,6 @@ pub use laws::{
     useless_links_are_fed_by_no_kept_host,
 };
 pub use links::useless;
+pub use reported::unreported;
 pub use rounds::doomed;
 pub use time::failure_time;

@@ -1,4 +1,4 @@
-// The live links without reports.
+// Links without reports.
 ghost use Rattle.std.specs.Prelude.{◌≡◌, ◌<◌, length, IfOk};
 ghost use Rattle.pipe_topo.specs.Reports.{report_of};
 ghost use Rattle.pipe_topo.specs.Sets.{has};
@@ -8,6 +8,7 @@ use pipe_base::{LinkId, NoMemory};
 use pipe_topo::{LinkSet, Reports, Topology};
 use std::alloc::Global;
 
+/// The live links without reports.
 #[tactic(auto, using(crate::proofs::FilledLaws::filled_none, crate::proofs::FilledLaws::filled_in, crate::proofs::FilledLaws::filled_out))]
 pub fn unreported(
     alloc: Global,

@@ -1,9 +1,8 @@
 // The hosts that must go.
-ghost use Rattle.std.specs.Prelude.{◌≡◌, ℕ, ◌<◌, length, IfOk};
+ghost use Rattle.std.specs.Prelude.{◌≡◌, length, IfOk};
 ghost use Rattle.pipe_topo.specs.Reports.{report_of};
 ghost use Rattle.pipe_topo.specs.Sets.{has};
 ghost use Rattle.pipe_base.specs.Doomed.{doomed, is_left};
-ghost use Rattle.pipe_failtime.specs.Filled.{IsFilled};
 ghost use Rattle.pipe_base.specs.Reported.{unreported};
 
 use crate::first::next_to_go;
@@ -25,25 +24,11 @@ pub fn doomed(
 ) -> Result<HostSet, NoMemory>
     requires live { length live.now ≡ length topology.now.links }
     requires reports { length reports.now ≡ length topology.now.links }
-    ensures { IfOk result (λ set. (host : ℕ) → host < 64 → has set host ≡ doomed topology.now (unreported (has live.now) (report_of reports.now)) (has members.now) (has before.now) host) }
+    ensures { IfOk result (λ set. has set ≡ doomed topology.now (unreported (has live.now) (report_of reports.now)) (has members.now) (has before.now)) }
 {
     let by = unreported(alloc, topology, live, reports)?;
     let reach = Reach::new(alloc, topology, &by)?;
-    Ok(after_rounds(&reach, members, copy_of(before)))
-}
-
-// The same hosts, below 64.
-#[tactic(auto, using(crate::proofs::FilledLaws::filled_in, crate::proofs::FilledLaws::filled_out))]
-fn copy_of(hosts: &HostSet) -> HostSet
-    ensures { IsFilled result 64 (has hosts.now) 64 }
-{
-    let mut copy = HostSet::none();
-    for host in 0..64 {
-        if hosts.has(HostId(host)) {
-            copy.insert(HostId(host));
-        }
-    }
-    copy
+    Ok(after_rounds(&reach, members, before.copy()))
 }
 
 fn after_rounds(reach: &Reach<'_>, members: &HostSet, before: HostSet) -> HostSet

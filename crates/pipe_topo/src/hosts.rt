@@ -2,7 +2,7 @@
 ghost use Rattle.std.specs.Prelude.{◌≡◌, ◌-◌, ◌<◌, ◌≤◌, ◌++◌, Bool, List, length, replicate, slice_set, true, false};
 ghost use Rattle.pipe_topo.specs.Sets.{has};
 
-use pipe_base::HostId;
+use pipe_base::{HostId, NodeId};
 use std::marker::Model;
 
 /// A set of host numbers below 64. Contracts see the answer for each of them.
@@ -67,5 +67,21 @@ impl HostSet {
         ensures { result ≡ has self.now host.0 }
     {
         self.bits & (1 << host.0) != 0
+    }
+
+    /// Whether the node is a host of the set. Any node may be asked for.
+    pub fn has_node(&self, node: NodeId) -> bool
+        ensures { result ≡ has self.now node.0 }
+    {
+        let hosts = self.copy();
+        node.0 < 64 && hosts.has(HostId(node.0))
+    }
+
+    /// The same set. Contracts learn that it has an answer for each of 64 numbers, and no more.
+    pub fn copy(&self) -> HostSet
+        ensures value { result ≡ self.now }
+        ensures size { length result ≡ 64 }
+    {
+        HostSet { bits: self.bits }
     }
 }

@@ -7,7 +7,7 @@ use std::alloc::Global;
 use std::marker::Model;
 
 /// A value for each reported link of one topology. Contracts see for each link its value, or none.
-#[derive(Drop)]
+#[derive(Clone, Drop)]
 pub struct Reports {
     values: Vec<Option<Ts>>,
 }
@@ -50,5 +50,11 @@ impl Reports {
         ensures { result ≡ report_of self.now link.0 }
     {
         self.values[usize::from(link.0)]
+    }
+
+    pub fn try_clone(&self) -> Result<Reports, NoMemory>
+        ensures { IfOk result (λ copy. copy ≡ self.now) }
+    {
+        Ok(self.clone()?)
     }
 }

@@ -1,0 +1,4 @@
+pub mod KeptLaws
+pub mod KnownLaws
+pub mod ListLaws
+pub mod NewsLaws
