@@ -1,5 +1,5 @@
 // Which hosts are announced.
-ghost use Rattle.std.specs.Prelude.{◌≡◌, ◌<◌, IfOk, is_some};
+ghost use Rattle.std.specs.Prelude.{◌≡◌, ◌<◌, IfOk};
 ghost use Rattle.pipe_control.specs.Known.{Fits, leaving_time, view_with};
 ghost use Rattle.pipe_model.specs.Decision.{newly_announced};
 ghost use Rattle.pipe_model.specs.View.{is_kept};

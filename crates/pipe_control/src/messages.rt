@@ -1,10 +1,9 @@
 // What the controller puts after a decision.
-ghost use Rattle.std.specs.Prelude.{◌≡◌, ◌&&◌, ◌++◌, ◌<◌, length, IfOk, OnOk};
+ghost use Rattle.std.specs.Prelude.{◌≡◌, ◌++◌, ◌<◌, length, IfOk, OnOk};
 ghost use Rattle.pipe_base.specs.declared.control.Control.TheVariants.{Notice};
 ghost use Rattle.pipe_base.specs.declared.control.To.TheVariants.{Node};
 ghost use Rattle.pipe_control.specs.Known.{Fits, view_with};
 ghost use Rattle.pipe_model.specs.Decision.{freeze, freezes, is_frozen, messages, notices};
-ghost use Rattle.pipe_topo.specs.Sets.{has};
 
 use crate::Controller;
 use crate::controller::copy_announced;
