@@ -1,17 +1,22 @@
 -- Control messages go to the controller or to nodes of the network.
-use Rattle.std.proofs.Common.{ℕ, List, [], ◌∷◌, Option, None, Some, filter, sym, subst, ap, inl, inr}
-use Rattle.std.specs.List.{All}
+use Rattle.std.proofs.Common.{ℕ, List, [], ◌∷◌, Option, None, Some, filter, sym, subst, ap, inl, inr, ◌<◌, length, arith}
+use Rattle.std.specs.List.{All, range_with_len}
 use Rattle.std.specs.Prelude.{IfSome, flat_map, slice_get}
-use Rattle.std.proofs.lemmas.List.Elements.{All-nil, All-cons, All-append}
+use Rattle.std.proofs.lemmas.List.Elements.{All-nil, All-cons, All-append, All-map, All-filter, All-weaker}
 use Rattle.pipe_base.specs.declared.control.Addressed.{Addressed}
+use Rattle.pipe_base.specs.declared.name.HostId.{HostId}
 use Rattle.pipe_base.specs.declared.name.LinkId.{LinkId}
 use Rattle.pipe_base.specs.declared.name.Ts.{Ts}
 use Rattle.pipe_base.specs.declared.packet.Packet.{Packet}
+use Rattle.pipe_base.specs.declared.step.Outcome.{Outcome}
 use Rattle.pipe_base.specs.declared.step.Step.{Step}
-use Rattle.pipe_base.specs.Graph.{Graph, ins_of}
+use Rattle.pipe_base.specs.Graph.{Graph, ins_of, IsGraph, all_links, head_of, link_id}
 use Rattle.pipe_base.specs.ShortestRoute.{not_dropped}
+use Rattle.pipe_model.specs.Controller.{nobodys_step, view}
+use Rattle.pipe_model.specs.Decision.{after_decision, all_hosts, freeze, freezes, host_id, is_behind, is_frozen, notice, notices}
+use Rattle.pipe_model.specs.View.{View}
 use Rattle.pipe_model.specs.declared.event.Event.{Event}
-use Rattle.pipe_model.specs.declared.event.Event.TheVariants.{Tick, Take, ControlTake}
+use Rattle.pipe_model.specs.declared.event.Event.TheVariants.{Tick, Take, ControlTake, Decide}
 use Rattle.pipe_model.specs.declared.record.Record.{Record}
 use Rattle.pipe_model.specs.Acting.{own}
 use Rattle.pipe_model.specs.Duties.{control_of, down_told}
@@ -25,6 +30,7 @@ use Rattle.pipe_model_net.proofs.ControlMessages.{messages_keep}
 use Rattle.pipe_net.specs.Waits.{Waits, waiting}
 use Rattle.pipe_world.specs.Turn.{IsAddressee, ReachesKnown, taken_of}
 use Rattle.pipe_world.proofs.StepPuts.{got_all}
+use Rattle.std.proofs.lemmas.List.FromFn.{get_or-range_with_len, length-range_with_len}
 
 abbrev pub GoesToKnown : Graph → Addressed → Type 0
 GoesToKnown graph m = IsAddressee graph m.to
@@ -43,18 +49,45 @@ owed_known graph node own (Tick n now) =
     told_all graph (λ (l : LinkId). mark own l.0) (filter (λ (l : LinkId). not_dropped (known_drops own) l.0) (ins_of graph node))
 owed_known graph node own _ = All-nil (GoesToKnown graph)
 
-put_known : (graph : Graph) (past : List Record) (r : Record) → IsStep graph past r → All (GoesToKnown graph) r.step.control
-put_known graph past r step = elim (nobodys_or_own graph r) [
-  | inl nobody ↦ subst (All (GoesToKnown graph)) (sym (ap (λ (s : Step). s.control) (step.quiet nobody))) (All-nil (GoesToKnown graph))
+numbers_below : (n : ℕ) → All (λ k. k < n) (range_with_len 0 n)
+numbers_below n = λ k d lt.
+    let below : k < n = omega (arith, lt, length-range_with_len 0 n) in
+    subst (λ (m : ℕ). m < n) (sym (get_or-range_with_len 0 n k d below)) below
+
+-- the messages of a decision go to heads of links and to hosts
+frozen_known : (graph : Graph) → IsGraph graph → (v : View) → All (GoesToKnown graph) (freezes graph v)
+frozen_known graph is v =
+    All-map (GoesToKnown graph) (freeze graph) (filter (is_frozen graph v) (all_links graph))
+    (All-filter (is_frozen graph v) (λ (l : LinkId). head_of graph l.0 < graph.nodes) (all_links graph)
+    (All-map (λ (l : LinkId). head_of graph l.0 < graph.nodes) link_id (range_with_len 0 (length graph.links))
+    (All-weaker (λ (n : ℕ). n < length graph.links) (λ (n : ℕ). head_of graph n < graph.nodes) is.heads_in (range_with_len 0 (length graph.links)) (numbers_below (length graph.links)))))
+
+noticed_known : (graph : Graph) → IsGraph graph → (v : View) → All (GoesToKnown graph) (notices graph v)
+noticed_known graph is v =
+    All-map (GoesToKnown graph) (notice v) (filter (λ (h : HostId). is_behind v h.0) (all_hosts graph))
+    (All-filter (λ (h : HostId). is_behind v h.0) (λ (h : HostId). h.0 < graph.nodes) (all_hosts graph)
+    (All-map (λ (h : HostId). h.0 < graph.nodes) host_id (range_with_len 0 graph.hosts)
+    (All-weaker (λ (n : ℕ). n < graph.hosts) (λ (n : ℕ). n < graph.nodes) (λ n lt. let within = is.hosts_in in omega arith) (range_with_len 0 graph.hosts) (numbers_below graph.hosts))))
+
+decided_known : (graph : Graph) → IsGraph graph → (v : View) (event : Event) (outcome : Outcome) → All (GoesToKnown graph) (nobodys_step graph v event outcome).control
+decided_known graph is v Decide outcome =
+    let w : View = after_decision graph v in
+    All-append (GoesToKnown graph) (freezes graph w) (notices graph w) (frozen_known graph is w) (noticed_known graph is w)
+decided_known graph is v _ outcome = All-nil (GoesToKnown graph)
+
+put_known : (graph : Graph) → IsGraph graph → (past : List Record) (r : Record) → IsStep graph past r → All (GoesToKnown graph) r.step.control
+put_known graph is past r step = elim (nobodys_or_own graph r) [
+  | inl nobody ↦
+      subst (All (GoesToKnown graph)) (sym (ap (λ (s : Step). s.control) (step.nobodys nobody))) (decided_known graph is (view graph past) r.event r.step.outcome)
   | inr mine ↦
       subst (All (GoesToKnown graph)) (sym (step.node mine.0 mine.1).control_is) (owed_known graph mine.0 (r ∷ own graph mine.0 past) r.event)
 ]
 
 -- so each control message that waits goes there
-pub messages_known : (graph : Graph) (past : List Record) → IsHistory graph past → All (GoesToKnown graph) (waiting_control past)
-messages_known graph past run =
+pub messages_known : (graph : Graph) → IsGraph graph → (past : List Record) → IsHistory graph past → All (GoesToKnown graph) (waiting_control past)
+messages_known graph is past run =
     messages_keep graph (λ (before : List Record) (m : Addressed). GoesToKnown graph m)
-    (record { stays = λ before r m step known. known; starts = λ before r earlier step. put_known graph before r step }) past run
+    (record { stays = λ before r m step known. known; starts = λ before r earlier step. put_known graph is before r step }) past run
 
 no_message : (graph : Graph) (link : LinkId) (o : Option Packet) → ReachesKnown graph (took_at link o)
 no_message graph link None = tt

@@ -5,6 +5,7 @@ use Rattle.std.specs.Prelude.{nat_lt, not, slice_get, slice_index_or, ◌&&◌, 
 use Rattle.std.proofs.lemmas.Bool.{and_right, both_ways, cases_eq}
 use Rattle.std.proofs.lemmas.Bool.Decides.{nat_tests}
 use Rattle.std.proofs.lemmas.Option.{slice_get_past}
+use Rattle.pipe_base.specs.Step.{quiet_step}
 use Rattle.pipe_base.specs.declared.control.Addressed.{Addressed}
 use Rattle.pipe_base.specs.declared.control.Control.{Control}
 use Rattle.pipe_base.specs.declared.control.To.TheVariants.{Controller, Node}
@@ -13,13 +14,15 @@ use Rattle.pipe_base.specs.declared.packet.Packet.{Packet}
 use Rattle.pipe_base.specs.declared.step.Outcome.{Outcome}
 use Rattle.pipe_base.specs.declared.step.Outcome.TheVariants.{Ok, NoItem, Crashed}
 use Rattle.pipe_base.specs.Graph.{Graph, head_of}
+use Rattle.pipe_model.specs.Controller.{nobodys_step, view}
+use Rattle.pipe_model.specs.View.{View}
 use Rattle.pipe_model.specs.declared.event.Event.{Event}
-use Rattle.pipe_model.specs.declared.event.Event.TheVariants.{Send, Tick, Take, Lose, ControlTake, ControlLose, Crash, Cut}
+use Rattle.pipe_model.specs.declared.event.Event.TheVariants.{Send, Tick, Take, Lose, ControlTake, ControlLose, Crash, Cut, Decide}
 use Rattle.pipe_model.specs.declared.record.Record.{Record}
 use Rattle.pipe_model.specs.declared.record.Took.{Took}
 use Rattle.pipe_model.specs.declared.record.Took.TheVariants.{Nothing, Message}
 use Rattle.pipe_model.specs.Acting.{acts, is_idle, is_own, own, reached}
-use Rattle.pipe_model.specs.Event.{IsOfGraph, IsBuilt}
+use Rattle.pipe_model.specs.Event.{IsOfGraph}
 use Rattle.pipe_model.specs.Outcome.{has_crashed, is_crash_of, item_at, message_outcome, outcome_at, outcome_of, place_outcome, took_at, took_message}
 use Rattle.pipe_model.specs.OwnOutcome.{own_outcome}
 use Rattle.pipe_model.specs.Run.{IsStep}
@@ -27,7 +30,7 @@ use Rattle.pipe_model.specs.Waiting.{is_ok, waiting_control, waiting_on}
 use Rattle.pipe_net.specs.Waits.{Waits, waiting}
 use Rattle.pipe_world.specs.declared.node.NodeState.{NodeState}
 use Rattle.pipe_world.specs.Queues.{IsInPlace, Stand}
-use Rattle.pipe_world.specs.Turn.{ActsAt, IsOfNobody, IsPassing, is_there, passing_record, taken_of}
+use Rattle.pipe_world.specs.Turn.{ActsAt, IsOfNobody, IsPassing, is_there, passing_record, taken_of, IsUndecided}
 use Rattle.pipe_world.specs.World.{Keeps}
 use Rattle.pipe_world.proofs.WaitingLists.{waits_there}
 
@@ -177,13 +180,17 @@ none_taken o t outcome is idle = subst (λ (x : Outcome). Nothing ≡ (if is_idl
 idle_owned : (graph : Graph) (event : Event) (outcome : Outcome) (n : ℕ) → is_idle outcome ≡ true → is_own graph n (passing_record event Nothing outcome) ≡ false
 idle_owned graph event outcome n idle = and_right (acts graph n event Nothing) (not (is_idle outcome)) (ap not idle)
 
-idle_step : (graph : Graph) (past : List Record) (event : Event) (outcome : Outcome) → IsBuilt event → outcome ≡ outcome_of graph past event → is_idle outcome ≡ true
+-- in an event that is no decision, nobody's step does nothing
+undecided_step : (graph : Graph) (v : View) (event : Event) (outcome : Outcome) → IsUndecided event → quiet_step outcome ≡ nobodys_step graph v event outcome
+undecided_step graph v Decide outcome undecided = absurd undecided
+undecided_step graph v _ outcome undecided = refl
+
+idle_step : (graph : Graph) (past : List Record) (event : Event) (outcome : Outcome) → IsUndecided event → outcome ≡ outcome_of graph past event → is_idle outcome ≡ true
     → IsStep graph past (passing_record event Nothing outcome)
-idle_step graph past event outcome built is idle = record {
-  built = built;
+idle_step graph past event outcome undecided is idle = record {
   outcome_is = is;
   took_is = none_taken (outcome_of graph past event) (item_at past event) outcome is idle;
-  quiet = λ nobody. refl;
+  nobodys = λ nobody. undecided_step graph (view graph past) event outcome undecided;
   node = λ n mine. absurd (both_ways (is_own graph n (passing_record event Nothing outcome)) (idle_owned graph event outcome n idle) mine);
 }
 
@@ -192,10 +199,10 @@ missing_no_crash lists n (Crash m) isnt = cc
 missing_no_crash lists n _ isnt = refl
 
 -- nothing waits at the place
-pub passes_missing : (graph : Graph) (nodes : List NodeState) (past : List Record) (lists : Waits) (event : Event) → Stand graph lists past → IsOfGraph graph event → IsBuilt event
+pub passes_missing : (graph : Graph) (nodes : List NodeState) (past : List Record) (lists : Waits) (event : Event) → Stand graph lists past → IsOfGraph graph event → IsUndecided event
     → is_there lists event ≡ false → IsPassing graph nodes lists (passing_record event Nothing NoItem)
-passes_missing graph nodes past lists event stands names built isnt = record {
-  rules = λ before keeps. idle_step graph before event NoItem built (missing_outcome graph before lists event keeps.queues_are names isnt) refl;
+passes_missing graph nodes past lists event stands names undecided isnt = record {
+  rules = λ before keeps. idle_step graph before event NoItem undecided (missing_outcome graph before lists event keeps.queues_are names isnt) refl;
   nobodys = λ n. idle_owned graph event NoItem n refl;
   crashes = λ before keeps n. same_crashes n (passing_record event Nothing NoItem) before (missing_no_crash lists n event isnt);
   in_place = in_place_idle graph past lists event NoItem stands names refl;
@@ -207,13 +214,13 @@ gone_by false o is = cc
 
 -- the node that would act has crashed
 pub passes_crashed : (graph : Graph) (nodes : List NodeState) (past : List Record) (lists : Waits) (event : Event) (id : NodeId) (took : Took) (d : NodeState)
-    → Stand graph lists past → IsOfGraph graph event → IsBuilt event → ActsAt graph id event took → took ≡ taken_of lists event → is_there lists event ≡ true
+    → Stand graph lists past → IsOfGraph graph event → IsUndecided event → ActsAt graph id event took → took ≡ taken_of lists event → is_there lists event ≡ true
     → id.0 < graph.nodes → (slice_index_or nodes id.0 d).crashed ≡ true → IsPassing graph nodes lists (passing_record event Nothing Crashed)
-passes_crashed graph nodes past lists event id took d stands names built at is there known gone =
+passes_crashed graph nodes past lists event id took d stands names undecided at is there known gone =
     let has : (before : List Record) → Keeps graph nodes lists before → has_crashed id.0 before ≡ true = λ before keeps. sym (keeps.nodes_are id.0 d known).crashed_is ∙ gone in
     record {
       rules = λ before keeps.
-          idle_step graph before event Crashed built
+          idle_step graph before event Crashed undecided
           (gone_by (has_crashed id.0 before) (own_outcome graph id.0 (own graph id.0 before) event) (has before keeps)
           ∙ outcome_acting graph id before lists event took keeps.queues_are names at is there)
           refl;
@@ -257,20 +264,19 @@ taken true t is = cc
 taken false t is = refl
 
 -- no node acts
-pub passes_nobodys : (graph : Graph) (nodes : List NodeState) (past : List Record) (lists : Waits) (event : Event) (took : Took) → Stand graph lists past → IsOfGraph graph event → IsBuilt event
+pub passes_nobodys : (graph : Graph) (nodes : List NodeState) (past : List Record) (lists : Waits) (event : Event) (took : Took) → Stand graph lists past → IsOfGraph graph event → IsUndecided event
     → IsOfNobody event took → took ≡ taken_of lists event → is_there lists event ≡ true → IsPassing graph nodes lists (passing_record event took Ok)
-passes_nobodys graph nodes past lists event took stands names built nobody is there =
+passes_nobodys graph nodes past lists event took stands names undecided nobody is there =
     let r : Record = passing_record event took Ok in
     record {
       rules = λ before keeps.
           let outcome : Ok ≡ outcome_of graph before event = nobodys_outcome graph before lists event took keeps.queues_are names nobody is there in
           record {
-            built = built;
             outcome_is = outcome;
             took_is =
                 is ∙ item_told graph before lists event keeps.queues_are names
                 ∙ taken (is_idle (outcome_of graph before event)) (item_at before event) (ap is_idle (sym outcome));
-            quiet = λ alone. refl;
+            nobodys = λ alone. undecided_step graph (view graph before) event Ok undecided;
             node = λ n mine. absurd (both_ways (is_own graph n r) (nobody_owned graph event took nobody n) mine);
           };
       nobodys = nobody_owned graph event took nobody;

@@ -21,7 +21,7 @@ use Rattle.pipe_model.specs.declared.record.Record.{Record}
 use Rattle.pipe_model.specs.declared.record.Took.{Took}
 use Rattle.pipe_model.specs.Acting.{ComesIn, acts, is_idle, is_own, own}
 use Rattle.pipe_model.specs.Clock.{next}
-use Rattle.pipe_model.specs.Event.{IsOfGraph, IsBuilt}
+use Rattle.pipe_model.specs.Event.{IsOfGraph}
 use Rattle.pipe_model.specs.Items.{IsOver, Overfills}
 use Rattle.pipe_model.specs.Moments.{moments_of, noted_hosts}
 use Rattle.pipe_model.specs.Outcome.{has_crashed, is_crash_of, item_at, outcome_of}
@@ -36,7 +36,7 @@ use Rattle.pipe_world.specs.declared.node.NodeState.{NodeState}
 use Rattle.pipe_world.specs.Node as node
 use Rattle.pipe_world.specs.Queues as queues
 use Rattle.pipe_world.specs.Node.{StandsWith, Works, record_of}
-use Rattle.pipe_world.specs.Turn.{ActsAt, IsPassing, is_crash, is_there, taken_of}
+use Rattle.pipe_world.specs.Turn.{ActsAt, IsPassing, is_crash, is_there, taken_of, IsUndecided}
 use Rattle.pipe_world.specs.World.{Adds, HasHalf, HasHost, Keeps, Restores, Stands}
 use Rattle.pipe_world.proofs.Passing.{acts_here, acts_only, item_told, others_live, outcome_acting, same_crashes, taken}
 
@@ -83,20 +83,19 @@ sender_is_host graph id host lt at = ap (is_host graph) at ∙ lt-ltb host graph
 
 -- the record of an event that was worked out is what the rules say
 pub worked : (graph : Graph) (id : NodeId) (lists : Waits) (event : Event) (took : Took) (step : Step) (past : List Record)
-    → IsOfGraph graph event → IsBuilt event → ActsAt graph id event took → took ≡ taken_of lists event → is_there lists event ≡ true
+    → IsOfGraph graph event → IsUndecided event → ActsAt graph id event took → took ≡ taken_of lists event → is_there lists event ≡ true
     → IsNodeStep graph id.0 (own graph id.0 past) (record_of event took step) → has_crashed id.0 past ≡ false
     → queues.Stand graph lists past → IsStep graph past (record_of event took step)
-worked graph id lists event took step past names built at is there rules lives waits =
+worked graph id lists event took step past names undecided at is there rules lives waits =
     let r : Record = record_of event took step in
     let o : List Record = own graph id.0 past in
     let told : own_outcome graph id.0 o event ≡ outcome_of graph past event = outcome_told graph id past lists event took lives waits names at is there in
     let busy : is_idle (outcome_of graph past event) ≡ false = ap is_idle (sym told) ∙ awake graph id.0 o event in
     let others : (n : ℕ) → n ≢ id.0 → is_own graph n r ≡ false = λ n other. and_left (acts graph n event took) (not (is_idle step.outcome)) (acts_only graph id event took n at other) in
     record {
-      built = built;
       outcome_is = rules.outcome_is ∙ told;
       took_is = is ∙ item_told graph past lists event waits names ∙ taken (is_idle (outcome_of graph past event)) (item_at past event) busy;
-      quiet = λ nobody. absurd (both_ways (is_own graph id.0 r) (nobody id.0) (owned graph id o r at rules));
+      nobodys = λ nobody. absurd (both_ways (is_own graph id.0 r) (nobody id.0) (owned graph id o r at rules));
       node = λ n mine.
           elim (cases_eq n id.0) [
             | inl same ↦ subst (λ (m : ℕ). IsNodeStep graph m (own graph m past) r) (sym same) rules
@@ -115,17 +114,17 @@ or_false false c is = sym is
 
 -- an event at the node that acts
 pub added : (graph : Graph) (id : NodeId) (before after : NodeState) (mid : Node) (lists left : Waits) (event : Event) (took : Took) (step : Step)
-    → IsOfGraph graph event → IsBuilt event → ActsAt graph id event took → took ≡ taken_of lists event → is_there lists event ≡ true
+    → IsOfGraph graph event → IsUndecided event → ActsAt graph id event took → took ≡ taken_of lists event → is_there lists event ≡ true
     → before.crashed ≡ false → after.crashed ≡ is_crash event
     → ((o : List Record) → node.Stands graph id.0 o before.node → Works graph id.0 o (record_of event took step) mid)
     → ((o : List Record) → StandsWith graph id.0 o (record_of event took step) mid → ComesIn graph id.0 event → IsNodeStep graph id.0 o (record_of event took step) → node.Stands graph id.0 (record_of event took step ∷ o) after.node)
     → ((past : List Record) → queues.Stand graph lists past → queues.Stand graph left (record_of event took step ∷ past))
     → Adds graph id.0 before after lists left (record_of event took step)
-added graph id before after mid lists left event took step names built at is there lives noted works follows moved =
+added graph id before after mid lists left event took step names undecided at is there lives noted works follows moved =
     let r : Record = record_of event took step in
     record {
       rules = λ past run stands waits.
-          worked graph id lists event took step past names built at is there (works (own graph id.0 past) stands.node_stands).rules (sym stands.crashed_is ∙ lives) waits;
+          worked graph id lists event took step past names undecided at is there (works (own graph id.0 past) stands.node_stands).rules (sym stands.crashed_is ∙ lives) waits;
       node_stands = λ past stands.
           let o : List Record = own graph id.0 past in
           let done = works o stands.node_stands in
@@ -147,24 +146,32 @@ pub overfills : (graph : Graph) (trace : List Record) (r : Record) (event : Even
 overfills graph trace r event items past step is over =
     record { past = past; next = r; event_is = is; rules = step; over = over }
 
--- a record in which no node does anything
-pub passed_by : (graph : Graph) (nodes : List NodeState) (lists left : Waits) (past : List Record) (r : Record) → Keeps graph nodes lists past
-    → IsPassing graph nodes lists r → IsOfGraph graph r.event → queues.Stand graph left (r ∷ past) → Keeps graph nodes left (r ∷ past)
-passed_by graph nodes lists left past r keeps passes known moved = record {
+-- a record that is no node's own leaves what is kept of the nodes
+pub kept_nodes : (graph : Graph) (nodes : List NodeState) (lists left : Waits) (past : List Record) (r : Record) → Keeps graph nodes lists past
+    → IsStep graph past r → ((n : ℕ) → is_own graph n r ≡ false) → ((n : ℕ) → has_crashed n (r ∷ past) ≡ has_crashed n past)
+    → IsOfGraph graph r.event → queues.Stand graph left (r ∷ past) → Keeps graph nodes left (r ∷ past)
+kept_nodes graph nodes lists left past r keeps step nobodys crashes known moved = record {
   is_graph = keeps.is_graph;
   joined = keeps.joined;
   few_links = keeps.few_links;
+  few_nodes = keeps.few_nodes;
   count = keeps.count;
   nodes_are = λ n d lt.
       let stands : node.StandsIn graph n past (slice_index_or nodes n d) = keeps.nodes_are n d lt in
       record {
-        node_stands = subst (λ (o : List Record). node.Stands graph n o (slice_index_or nodes n d).node) (sym (own_same graph n r past (passes.nobodys n))) stands.node_stands;
-        crashed_is = stands.crashed_is ∙ sym (passes.crashes past keeps n);
+        node_stands = subst (λ (o : List Record). node.Stands graph n o (slice_index_or nodes n d).node) (sym (own_same graph n r past (nobodys n))) stands.node_stands;
+        crashed_is = stands.crashed_is ∙ sym (crashes n);
       };
   queues_are = moved;
-  rules = (keeps.rules, passes.rules past keeps);
+  rules = (keeps.rules, step);
   names = All-cons (λ (s : Record). IsOfGraph graph s.event) r past known keeps.names;
 }
+
+-- a record in which no node does anything
+pub passed_by : (graph : Graph) (nodes : List NodeState) (lists left : Waits) (past : List Record) (r : Record) → Keeps graph nodes lists past
+    → IsPassing graph nodes lists r → IsOfGraph graph r.event → queues.Stand graph left (r ∷ past) → Keeps graph nodes left (r ∷ past)
+passed_by graph nodes lists left past r keeps passes known moved =
+    kept_nodes graph nodes lists left past r keeps (passes.rules past keeps) passes.nobodys (passes.crashes past keeps) known moved
 
 -- a record of a node's own
 pub acted : (graph : Graph) (nodes : List NodeState) (lists left : Waits) (past : List Record) (id : ℕ) (before after : NodeState) (r : Record) → Keeps graph nodes lists past
@@ -175,6 +182,7 @@ acted graph nodes lists left past id before after r keeps lt read adds known =
       is_graph = keeps.is_graph;
       joined = keeps.joined;
       few_links = keeps.few_links;
+      few_nodes = keeps.few_nodes;
       count = length-set nodes id after ∙ keeps.count;
       nodes_are = λ n d within.
           elim (cases_eq n id) [
@@ -203,6 +211,7 @@ refused graph nodes lists past id before after keeps lt read restores =
       is_graph = keeps.is_graph;
       joined = keeps.joined;
       few_links = keeps.few_links;
+      few_nodes = keeps.few_nodes;
       count = length-set nodes id after ∙ keeps.count;
       nodes_are = λ n d within.
           elim (cases_eq n id) [

@@ -1,3 +1,4 @@
+pub mod Decision
 pub mod History
 pub mod Node
 pub mod Queues

@@ -10,7 +10,7 @@ use Rattle.pipe_base.specs.declared.step.Outcome.{Outcome}
 use Rattle.pipe_base.specs.Graph.{Graph, head_of}
 use Rattle.pipe_base.specs.Step.{quiet_step}
 use Rattle.pipe_model.specs.declared.event.Event.{Event}
-use Rattle.pipe_model.specs.declared.event.Event.TheVariants.{Send, Tick, Take, Lose, ControlTake, ControlLose, Crash, Cut}
+use Rattle.pipe_model.specs.declared.event.Event.TheVariants.{Send, Tick, Take, Lose, ControlTake, ControlLose, Decide, Crash, Cut}
 use Rattle.pipe_model.specs.declared.record.Record.{Record}
 use Rattle.pipe_model.specs.declared.record.Took.{Took}
 use Rattle.pipe_model.specs.declared.record.Took.TheVariants.{Nothing, Link, Message}
@@ -27,6 +27,11 @@ use Rattle.pipe_world.specs.Node as node
 use Rattle.pipe_world.specs.Node.{record_of}
 use Rattle.pipe_world.specs.Queues.{IsInPlace}
 use Rattle.pipe_world.specs.World.{Keeps}
+
+-- an event that is no decision of the controller
+abbrev pub IsUndecided : Event → Type 0
+IsUndecided Decide = ⊥
+IsUndecided _ = Unit {0}
 
 -- something waits at the place that the event names, if it names one
 abbrev pub is_there : Waits → Event → Bool

@@ -2,9 +2,12 @@
 use Rattle.std.specs.Prelude.{◌≡◌, ◌≢◌, ℕ, ◌<◌, ◌≤◌, true, false, List, [], ◌∷◌, ◌++◌, length, reverse, slice_index_or}
 use Rattle.pipe_base.specs.Graph.{Graph, IsGraph, is_half, is_host}
 use Rattle.pipe_base.specs.Reach.{JoinsAllHosts}
+use Rattle.pipe_control.specs.declared.controller.Controller.{Controller}
+use Rattle.pipe_control.specs.Known as control
 use Rattle.pipe_model.specs.declared.event.Event.{Event}
 use Rattle.pipe_model.specs.declared.record.Record.{Record}
 use Rattle.pipe_model.specs.Acting.{is_own, own}
+use Rattle.pipe_model.specs.Controller.{view}
 use Rattle.pipe_model.specs.Items.{IsOver}
 use Rattle.pipe_model.specs.NeverLate.{AreOfGraph}
 use Rattle.pipe_model.specs.Outcome.{is_crash_of}
@@ -25,6 +28,7 @@ pub record Keeps (graph : Graph) (nodes : List NodeState) (waits : Waits) (past 
   pub is_graph : IsGraph graph
   pub joined : JoinsAllHosts graph
   pub few_links : length graph.links ≤ 1088
+  pub few_nodes : graph.nodes ≤ 192
   pub count : length nodes ≡ graph.nodes
   pub nodes_are : (n : ℕ) (d : NodeState) → n < graph.nodes → node.StandsIn graph n past (slice_index_or nodes n d)
   pub queues_are : queues.Stand graph waits past
@@ -33,6 +37,14 @@ pub record Keeps (graph : Graph) (nodes : List NodeState) (waits : Waits) (past 
 
 abbrev pub Stands : Graph → List NodeState → Waits → List Record → Type 0
 Stands graph nodes waits trace = Keeps graph nodes waits (reverse trace)
+
+-- the same, and the controller knows what the rules say after the history
+pub record Runs (graph : Graph) (nodes : List NodeState) (waits : Waits) (controller : Controller) (past : List Record) : Type 0 where
+  pub keeps : Keeps graph nodes waits past
+  pub controller_is : control.Stands graph (view graph past) controller
+
+abbrev pub RunsFor : Graph → List NodeState → Waits → Controller → List Record → Type 0
+RunsFor graph nodes waits controller trace = Runs graph nodes waits controller (reverse trace)
 
 -- among what is kept for nodes is a host, which stands for its own records of the history
 pub record HasHost (graph : Graph) (nodes : List NodeState) (past : List Record) (host : ℕ) : Type 0 where

@@ -2,13 +2,13 @@
 ghost use Rattle.std.specs.Prelude.{◌≡◌, ◌≤◌, ◌∷◌, ◌++◌, ℕ, List, [], IfErr, IfOk, OnOk, OnErr, length, reverse, true, false};
 ghost use Rattle.pipe_base.specs.Graph.{Graph};
 ghost use Rattle.pipe_model.specs.declared.record.Record.{Record};
-ghost use Rattle.pipe_model.specs.Event.{IsOfGraph, IsBuilt};
+ghost use Rattle.pipe_model.specs.Event.{IsOfGraph};
 ghost use Rattle.pipe_model.specs.Items.{Overfills};
 ghost use Rattle.pipe_world.specs.History.{FullBy};
 ghost use Rattle.pipe_world.specs.Queues.{IsInPlace, Stand};
 ghost use Rattle.pipe_world.specs.Node as kept;
 ghost use Rattle.pipe_world.specs.Node.{Works, record_of};
-ghost use Rattle.pipe_world.specs.Turn.{ActsAt, IsAt, is_crash, is_there, passing_record, taken_of};
+ghost use Rattle.pipe_world.specs.Turn.{ActsAt, IsAt, is_crash, is_there, passing_record, taken_of, IsUndecided};
 ghost use Rattle.pipe_world.specs.World.{Adds, AddsEvent, PassesBy, Restores, Stands, StandsForSome, WouldOverfill};
 
 use crate::enter::enter;
@@ -31,7 +31,7 @@ pub fn happen(
 ) -> Result<(), StepFault>
     requires stands { Stands topology.now nodes.old queues.old history.old }
     requires event { IsOfGraph topology.now event }
-    requires built { IsBuilt event }
+    requires undecided { IsUndecided event }
     ensures ok { OnOk result (AddsEvent history.old history.new event) }
     ensures err { OnErr result (history.new ≡ history.old) }
     ensures full { IfErr result (λ fault. (items : ℕ) → fault ≡ StepFault.Full items → Overfills topology.now history.old event items) }
@@ -90,7 +90,7 @@ fn act(
     took: Took,
 ) -> Result<(), StepFault>
     requires event { IsOfGraph topology.now event }
-    requires built { IsBuilt event }
+    requires undecided { IsUndecided event }
     requires acts { ActsAt topology.now id event took }
     requires took { took ≡ taken_of queues.old event }
     requires stands { StandsForSome topology.now id.0 state.old.node }
@@ -131,7 +131,7 @@ fn is_crash(event: &Event) -> bool
 /// it begins, is changed.
 fn work_at(node: &mut Node, event: &Event, took: &Took) -> Result<KeptStep, NoMemory>
     requires acts { (graph : Graph) × (id : NodeId) × IsAt graph id event.now took.now node.old }
-    requires built { IsBuilt event.now }
+    requires undecided { IsUndecided event.now }
     ensures work { IfOk result (λ step. (graph : Graph) (id : NodeId) (own : List Record) → IsOfGraph graph event.now → ActsAt graph id event.now took.now
         → kept.Stands graph id.0 own node.old → Works graph id.0 own (record_of event.now took.now step) node.new) }
     ensures err { OnErr result (node.new ≡ node.old) }

@@ -3,6 +3,7 @@
 #![tactic(auto)]
 
 mod enter;
+mod event;
 mod fault;
 mod happen;
 mod history;

@@ -2,8 +2,8 @@
 ghost use Rattle.std.specs.Prelude.{◌≡◌, ◌<◌, List, IfOk, IfSome, MatchOption, length, true};
 ghost use Rattle.pipe_base.specs.Graph.{Graph, IsGraph};
 ghost use Rattle.pipe_model.specs.declared.record.Record.{Record};
-ghost use Rattle.pipe_model.specs.Event.{IsOfGraph, IsBuilt};
-ghost use Rattle.pipe_world.specs.Turn.{ActsAt, IsItem, IsMessage, IsOfNobody, IsToController, IsToNode, IsTurn, ReachesKnown, is_there, taken_of};
+ghost use Rattle.pipe_model.specs.Event.{IsOfGraph};
+ghost use Rattle.pipe_world.specs.Turn.{ActsAt, IsItem, IsMessage, IsOfNobody, IsToController, IsToNode, IsTurn, ReachesKnown, is_there, taken_of, IsUndecided};
 ghost use Rattle.pipe_world.specs.World.{Keeps};
 
 use crate::node::NodeState;
@@ -31,7 +31,7 @@ pub fn whose_turn(
 ) -> Result<Turn, NoMemory>
     requires keeps { (past : List Record) × Keeps topology.now nodes.now queues.old past }
     requires event { IsOfGraph topology.now event.now }
-    requires built { IsBuilt event.now }
+    requires undecided { IsUndecided event.now }
     ensures turn { IfOk result (λ turn. IsTurn topology.now nodes.now queues.old event.now turn) }
     ensures same { queues.new ≡ queues.old }
 {
@@ -107,7 +107,7 @@ fn item(queues: &mut Queues, event: &Event) -> Result<Took, NoMemory>
 fn acting_node(topology: &Topology, event: &Event, took: &Took) -> Option<NodeId>
     requires graph { IsGraph topology.now }
     requires event { IsOfGraph topology.now event.now }
-    requires built { IsBuilt event.now }
+    requires undecided { IsUndecided event.now }
     requires item { IsItem event.now took.now }
     requires known { ReachesKnown topology.now took.now }
     ensures acts { MatchOption result (IsOfNobody event.now took.now) (λ id. ActsAt topology.now id event.now took.now) }

@@ -1,6 +1,6 @@
 // The world: a network, what its nodes keep, what waits, and all that happened.
 ghost use Rattle.std.specs.Prelude.{◌≡◌, ◌<◌, ◌≤◌, ℕ, List, [], true, IfErr, IfOk, OnOk, OnErr, length, reverse, slice_index_or};
-ghost use Rattle.pipe_model.specs.Event.{IsOfGraph, IsBuilt};
+ghost use Rattle.pipe_model.specs.Event.{IsOfGraph};
 ghost use Rattle.pipe_base.specs.Graph.{Graph, IsGraph, is_half};
 ghost use Rattle.pipe_base.specs.Limits.{most_items};
 ghost use Rattle.pipe_base.specs.Reach.{JoinsAllHosts};
@@ -14,17 +14,20 @@ ghost use Rattle.pipe_model.specs.Run.{IsHistory};
 ghost use Rattle.pipe_model.specs.Waiting.{waiting_control, waiting_on};
 ghost use Rattle.pipe_world.specs.declared.node.NodeState.{NodeState};
 ghost use Rattle.pipe_model.specs.declared.record.Record.{Record};
+ghost use Rattle.pipe_control.specs.Known as control;
 ghost use Rattle.pipe_model.specs.Acting.{own};
+ghost use Rattle.pipe_model.specs.Controller.{view};
 ghost use Rattle.pipe_host.specs.Host as hosts;
 ghost use Rattle.pipe_switch.specs.Half as halves;
 ghost use Rattle.pipe_world.specs.Node as node;
 ghost use Rattle.pipe_world.specs.World.{Extends, HasHalf, HasHost};
 
+use crate::event::run_event;
 use crate::fault::StepFault;
-use crate::happen::happen;
 use crate::history::History;
 use crate::node::{Node, NodeState};
 use pipe_base::{HostId, LinkId, NoMemory, NodeId};
+use pipe_control::Controller;
 use pipe_host::Host;
 use pipe_model::{Event, Trace};
 use pipe_net::Queues;
@@ -39,17 +42,18 @@ pub struct World {
     topology: Topology,
     nodes: Vec<NodeState>,
     queues: Queues,
+    controller: Controller,
     history: History,
 }
 
 impl Model for World {
-    ghost use Rattle.pipe_world.specs.World.{GraphAndTrace, Stands};
+    ghost use Rattle.pipe_world.specs.World.{GraphAndTrace, RunsFor};
 
     ghost Value = { GraphAndTrace };
 
     ghost view = { λ w. record { graph = w.topology; trace = w.history } };
 
-    ghost invariant = { λ w. Stands w.topology w.nodes.items w.queues w.history };
+    ghost invariant = { λ w. RunsFor w.topology w.nodes.items w.queues w.controller w.history };
 }
 
 impl World {
@@ -59,10 +63,12 @@ impl World {
     {
         let nodes = fresh_nodes(alloc, &topology)?;
         let queues = Queues::new(alloc, topology.links())?;
+        let controller = Controller::new(alloc, &topology)?;
         Ok(World {
             topology,
             nodes,
             queues,
+            controller,
             history: History::new(alloc),
         })
     }
@@ -70,15 +76,15 @@ impl World {
     /// Runs one event and appends its record.
     pub fn step(&mut self, event: Event) -> Result<(), StepFault>
         requires event { IsOfGraph self.old.graph event }
-        requires built { IsBuilt event }
         ensures ok { OnOk result (Extends self.old self.new event) }
         ensures full { IfErr result (λ fault. (items : ℕ) → fault ≡ StepFault.Full items → Overfills self.old.graph self.old.trace event items) }
         ensures err { OnErr result (self.new ≡ self.old) }
     {
-        happen(
+        run_event(
             &self.topology,
             &mut self.nodes,
             &mut self.queues,
+            &mut self.controller,
             &mut self.history,
             event,
         )
@@ -140,6 +146,13 @@ impl World {
         half_in(&self.nodes, node)
     }
 
+    /// The controller, as it stands after all that happened.
+    pub fn controller(&self) -> &Controller
+        ensures { control.Stands self.now.graph (view self.now.graph (reverse self.now.trace)) result.now }
+    {
+        &self.controller
+    }
+
     /// How many packets and control messages were put so far.
     pub fn items(&self) -> u32
         ensures { result ≡ items_of self.now.trace }
@@ -194,6 +207,7 @@ fn half_in(nodes: &[NodeState], node: NodeId) -> &Half
 /// A node with its in-links for each number, to which nothing has happened.
 fn fresh_nodes(alloc: Global, topology: &Topology) -> Result<Vec<NodeState>, NoMemory>
     ensures graph { OnOk result (IsGraph topology.now) }
+    ensures few { OnOk result (topology.now.nodes ≤ 192) }
     ensures count { IfOk result (λ nodes. length nodes.items ≡ topology.now.nodes) }
     ensures stand { IfOk result (λ nodes. (n : ℕ) (d : NodeState) → n < topology.now.nodes → node.StandsIn topology.now n [] (slice_index_or nodes.items n d)) }
 {

@@ -15,7 +15,7 @@ use Rattle.pipe_world.proofs.happen.act.Goals as goal
 pub work_at-requires : goal.work_at-requires
 work_at-requires c = record {
   acts = (c.args.topology.now, c.args.id, record { names = c.requires.event; acts = c.requires.acts; own = c.requires.stands.own; stands = c.requires.stands.stands });
-  built = c.requires.built;
+  undecided = c.requires.undecided;
 }
 
 pub enter-requires-clause-known : goal.enter-requires-clause-known
@@ -51,7 +51,7 @@ returns-in-Ok-enter-clause-ok c =
       c.in-Ok-enter.ensures.ok,
       refl,
       added graph c.args.id c.args.state.now after c.work_at.new.node c.args.queues.now c.enter.new.queues c.args.event c.args.took step
-          c.requires.event c.requires.built c.requires.acts c.requires.took c.requires.there c.requires.awake c.is_crash-crashes.ensures
+          c.requires.event c.requires.undecided c.requires.acts c.requires.took c.requires.there c.requires.awake c.is_crash-crashes.ensures
           (λ o stands. c.in-Ok.ensures.work graph c.args.id o c.requires.event c.requires.acts stands)
           (follows graph c.args.id.0)
           (λ past waits. c.in-Ok-enter.ensures.queues_ok graph past waits),
@@ -74,7 +74,7 @@ returns-in-Err-clause-full c = λ items is. record {
   next = record_of c.args.event c.args.took c.in-Ok.step;
   event_is = refl;
   rules = λ past run stands waits.
-      worked c.args.topology.now c.args.id c.args.queues.now c.args.event c.args.took c.in-Ok.step past c.requires.event c.requires.built c.requires.acts c.requires.took c.requires.there
+      worked c.args.topology.now c.args.id c.args.queues.now c.args.event c.args.took c.in-Ok.step past c.requires.event c.requires.undecided c.requires.acts c.requires.took c.requires.there
       (c.in-Ok.ensures.work c.args.topology.now c.args.id _ c.requires.event c.requires.acts stands.node_stands).rules (sym stands.crashed_is ∙ c.requires.awake) waits;
   over = c.in-Err.ensures.err.full items is;
 }

@@ -15,7 +15,7 @@ acting_node-requires-clause-known c =
     let waits : Waits = c.args.queues.now in
     let keeps : Keeps graph c.args.nodes.now waits c.requires.keeps.0 = c.requires.keeps.1 in
     subst (ReachesKnown graph) (sym c.in_ok-took.ensures.took)
-    (taken_known graph waits c.args.event.now (subst (All (GoesToKnown graph)) (sym keeps.queues_are.control_is) (messages_known graph c.requires.keeps.0 keeps.rules)))
+    (taken_known graph waits c.args.event.now (subst (All (GoesToKnown graph)) (sym keeps.queues_are.control_is) (messages_known graph keeps.is_graph c.requires.keeps.0 keeps.rules)))
 
 pub returns-then-not-is_there-clause-turn : goal.returns-then-not-is_there-clause-turn
 returns-then-not-is_there-clause-turn c =
@@ -23,7 +23,7 @@ returns-then-not-is_there-clause-turn c =
     let waits : Waits = c.args.queues.now in
     let keeps : Keeps graph c.args.nodes.now waits c.requires.keeps.0 = c.requires.keeps.1 in
     subst (IsTurn graph c.args.nodes.now waits c.args.event.now) (sym c.idle.ensures)
-    (passes_missing graph c.args.nodes.now c.requires.keeps.0 waits c.args.event.now keeps.queues_are c.requires.event c.requires.built
+    (passes_missing graph c.args.nodes.now c.requires.keeps.0 waits c.args.event.now keeps.queues_are c.requires.event c.requires.undecided
     (sym c.is_there.ensures ∙ c.if-not-is_there.true))
 
 pub returns-in-Some-clause-turn : goal.returns-in-Some-clause-turn
@@ -34,5 +34,5 @@ returns-in-Some-clause-turn c =
     let gone : (slice_index_or c.args.nodes.now c.in-Some.id.0 c.index-nodes-id.result).crashed ≡ true = c.if-nodes-id.true in
     subst (IsTurn graph c.args.nodes.now waits c.args.event.now) (sym c.idle-in-Some.ensures)
     (passes_crashed graph c.args.nodes.now c.requires.keeps.0 waits c.args.event.now c.in-Some.id c.in_ok-took.took c.index-nodes-id.result
-    keeps.queues_are c.requires.event c.requires.built c.in-Some.ensures.acts c.in_ok-took.ensures.took (sym c.is_there.ensures ∙ c.if-not-is_there.false)
+    keeps.queues_are c.requires.event c.requires.undecided c.in-Some.ensures.acts c.in_ok-took.ensures.took (sym c.is_there.ensures ∙ c.if-not-is_there.false)
     c.in-Some.ensures.known gone)

@@ -16,7 +16,7 @@ half_in-requires c =
     let is : is_half graph c.args.node.0 ≡ true = subst (λ (v : GraphAndTrace). is_half v.graph c.args.node.0 ≡ true) (sym c.self.view_is) c.requires.half in
     let has : HasHalf graph c.deref.result.now past c.args.node.0 =
     subst (λ (ns : List NodeState). HasHalf graph ns past c.args.node.0) (sym c.deref.ensures.value)
-    (has_half graph c.self.inside.nodes.items c.self.inside.queues past c.args.node.0 c.self.invariant known is) in
+    (has_half graph c.self.inside.nodes.items c.self.inside.queues past c.args.node.0 c.self.invariant.keeps known is) in
     (graph, past, has)
 
 pub returns : goal.returns
@@ -27,6 +27,6 @@ returns c =
     let is : is_half graph c.args.node.0 ≡ true = subst (λ (v : GraphAndTrace). is_half v.graph c.args.node.0 ≡ true) (sym c.self.view_is) c.requires.half in
     let has : HasHalf graph c.deref.result.now past c.args.node.0 =
     subst (λ (ns : List NodeState). HasHalf graph ns past c.args.node.0) (sym c.deref.ensures.value)
-    (has_half graph c.self.inside.nodes.items c.self.inside.queues past c.args.node.0 c.self.invariant known is) in
+    (has_half graph c.self.inside.nodes.items c.self.inside.queues past c.args.node.0 c.self.invariant.keeps known is) in
     subst (λ (v : GraphAndTrace). halves.Stands v.graph c.args.node.0 (own v.graph c.args.node.0 (reverse v.trace)) c.half_in.result.now) c.self.view_is
     (c.half_in.ensures graph past has)

@@ -15,7 +15,7 @@ host_in-requires c =
     let known : c.args.host.0 < graph.hosts = subst (λ (v : GraphAndTrace). c.args.host.0 < v.graph.hosts) (sym c.self.view_is) c.requires in
     let has : HasHost graph c.deref.result.now past c.args.host.0 =
     subst (λ (ns : List NodeState). HasHost graph ns past c.args.host.0) (sym c.deref.ensures.value)
-    (has_host graph c.self.inside.nodes.items c.self.inside.queues past c.args.host.0 c.self.invariant known) in
+    (has_host graph c.self.inside.nodes.items c.self.inside.queues past c.args.host.0 c.self.invariant.keeps known) in
     (graph, past, has)
 
 pub returns : goal.returns
@@ -25,6 +25,6 @@ returns c =
     let known : c.args.host.0 < graph.hosts = subst (λ (v : GraphAndTrace). c.args.host.0 < v.graph.hosts) (sym c.self.view_is) c.requires in
     let has : HasHost graph c.deref.result.now past c.args.host.0 =
     subst (λ (ns : List NodeState). HasHost graph ns past c.args.host.0) (sym c.deref.ensures.value)
-    (has_host graph c.self.inside.nodes.items c.self.inside.queues past c.args.host.0 c.self.invariant known) in
+    (has_host graph c.self.inside.nodes.items c.self.inside.queues past c.args.host.0 c.self.invariant.keeps known) in
     subst (λ (v : GraphAndTrace). hosts.Stands v.graph c.args.host.0 (own v.graph c.args.host.0 (reverse v.trace)) c.host_in.result.now) c.self.view_is
     (c.host_in.ensures graph past has)

@@ -16,33 +16,33 @@ pub returns-clause-ordered : goal.returns-clause-ordered
 returns-clause-ordered c =
     subst (λ (v : GraphAndTrace). AreLogsOrdered v.graph (reverse c.into_trace.result)) c.self.view_is
     (subst (λ (t : List Record). AreLogsOrdered c.self.inside.topology (reverse t)) (sym c.into_trace.ensures.trace)
-    (run_ordered c.self.inside.topology (reverse c.self.inside.history) c.self.invariant.rules))
+    (run_ordered c.self.inside.topology (reverse c.self.inside.history) c.self.invariant.keeps.rules))
 
 pub returns-clause-causal : goal.returns-clause-causal
 returns-clause-causal c =
     subst (λ (v : GraphAndTrace). AreStampsCausal v.graph (reverse c.into_trace.result)) c.self.view_is
     (subst (λ (t : List Record). AreStampsCausal c.self.inside.topology (reverse t)) (sym c.into_trace.ensures.trace)
-    (run_causal c.self.inside.topology (reverse c.self.inside.history) c.self.invariant.rules))
+    (run_causal c.self.inside.topology (reverse c.self.inside.history) c.self.invariant.keeps.rules))
 
 pub returns-clause-genuine : goal.returns-clause-genuine
 returns-clause-genuine c =
     subst (λ (v : GraphAndTrace). IsGenuine v.graph (reverse c.into_trace.result)) c.self.view_is
     (subst (λ (t : List Record). IsGenuine c.self.inside.topology (reverse t)) (sym c.into_trace.ensures.trace)
-    (run_genuine c.self.inside.topology (reverse c.self.inside.history) c.self.invariant.rules))
+    (run_genuine c.self.inside.topology (reverse c.self.inside.history) c.self.invariant.keeps.rules))
 
 pub returns-clause-never_late : goal.returns-clause-never_late
 returns-clause-never_late c =
     subst (λ (t : List Record). AreLinksOrdered (reverse t) → IsNeverLate (reverse t)) (sym c.into_trace.ensures.trace)
-    (never_late c.self.inside.topology (reverse c.self.inside.history) c.self.invariant.rules c.self.invariant.names)
+    (never_late c.self.inside.topology (reverse c.self.inside.history) c.self.invariant.keeps.rules c.self.invariant.keeps.names)
 
 pub returns-clause-all_or_none : goal.returns-clause-all_or_none
 returns-clause-all_or_none c =
     subst (λ (v : GraphAndTrace). IsAllOrNone v.graph (reverse c.into_trace.result)) c.self.view_is
     (subst (λ (t : List Record). IsAllOrNone c.self.inside.topology (reverse t)) (sym c.into_trace.ensures.trace)
-    (all_or_none c.self.inside.topology (reverse c.self.inside.history) c.self.invariant.joined c.self.invariant.rules))
+    (all_or_none c.self.inside.topology (reverse c.self.inside.history) c.self.invariant.keeps.joined c.self.invariant.keeps.rules))
 
 pub returns-clause-none_late : goal.returns-clause-none_late
 returns-clause-none_late c =
     subst (λ (v : GraphAndTrace). IsNoneLateOfItself v.graph (reverse c.into_trace.result)) c.self.view_is
     (subst (λ (t : List Record). IsNoneLateOfItself c.self.inside.topology (reverse t)) (sym c.into_trace.ensures.trace)
-    (none_late c.self.inside.topology (reverse c.self.inside.history) c.self.invariant.joined c.self.invariant.rules c.self.invariant.names))
+    (none_late c.self.inside.topology (reverse c.self.inside.history) c.self.invariant.keeps.joined c.self.invariant.keeps.rules c.self.invariant.keeps.names))

@@ -15,32 +15,32 @@ use Rattle.pipe_world.proofs.world.World.trace.Goals as goal
 pub returns-clause-ordered : goal.returns-clause-ordered
 returns-clause-ordered c =
     subst (λ (v : GraphAndTrace). AreLogsOrdered v.graph (reverse v.trace)) c.self.view_is
-    (run_ordered c.self.inside.topology (reverse c.self.inside.history) c.self.invariant.rules)
+    (run_ordered c.self.inside.topology (reverse c.self.inside.history) c.self.invariant.keeps.rules)
 
 pub returns-clause-causal : goal.returns-clause-causal
 returns-clause-causal c =
     subst (λ (v : GraphAndTrace). AreStampsCausal v.graph (reverse v.trace)) c.self.view_is
-    (run_causal c.self.inside.topology (reverse c.self.inside.history) c.self.invariant.rules)
+    (run_causal c.self.inside.topology (reverse c.self.inside.history) c.self.invariant.keeps.rules)
 
 pub returns-clause-genuine : goal.returns-clause-genuine
 returns-clause-genuine c =
     subst (λ (v : GraphAndTrace). IsGenuine v.graph (reverse v.trace)) c.self.view_is
-    (run_genuine c.self.inside.topology (reverse c.self.inside.history) c.self.invariant.rules)
+    (run_genuine c.self.inside.topology (reverse c.self.inside.history) c.self.invariant.keeps.rules)
 
 pub returns-clause-never_late : goal.returns-clause-never_late
 returns-clause-never_late c =
     subst (λ (v : GraphAndTrace). AreLinksOrdered (reverse v.trace) → IsNeverLate (reverse v.trace)) c.self.view_is
-    (never_late c.self.inside.topology (reverse c.self.inside.history) c.self.invariant.rules c.self.invariant.names)
+    (never_late c.self.inside.topology (reverse c.self.inside.history) c.self.invariant.keeps.rules c.self.invariant.keeps.names)
 
 pub returns-clause-joined : goal.returns-clause-joined
-returns-clause-joined c = subst (λ (v : GraphAndTrace). JoinsAllHosts v.graph) c.self.view_is c.self.invariant.joined
+returns-clause-joined c = subst (λ (v : GraphAndTrace). JoinsAllHosts v.graph) c.self.view_is c.self.invariant.keeps.joined
 
 pub returns-clause-all_or_none : goal.returns-clause-all_or_none
 returns-clause-all_or_none c =
     subst (λ (v : GraphAndTrace). IsAllOrNone v.graph (reverse v.trace)) c.self.view_is
-    (all_or_none c.self.inside.topology (reverse c.self.inside.history) c.self.invariant.joined c.self.invariant.rules)
+    (all_or_none c.self.inside.topology (reverse c.self.inside.history) c.self.invariant.keeps.joined c.self.invariant.keeps.rules)
 
 pub returns-clause-none_late : goal.returns-clause-none_late
 returns-clause-none_late c =
     subst (λ (v : GraphAndTrace). IsNoneLateOfItself v.graph (reverse v.trace)) c.self.view_is
-    (none_late c.self.inside.topology (reverse c.self.inside.history) c.self.invariant.joined c.self.invariant.rules c.self.invariant.names)
+    (none_late c.self.inside.topology (reverse c.self.inside.history) c.self.invariant.keeps.joined c.self.invariant.keeps.rules c.self.invariant.keeps.names)
