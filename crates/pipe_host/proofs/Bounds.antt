@@ -1,10 +1,12 @@
 -- The stamps of a host are within the clock, and what it logs is below the end of the type.
-use Rattle.std.proofs.Common.{◌≡◌, ℕ, ◌-◌, ◌^◌, ◌<◌, ◌≤◌, nat_le, Bool, true, false, List, ◌∷◌, ◌++◌, Option, None, IfSome, refl, sym, subst, arith}
+use Rattle.std.proofs.Common.{◌≡◌, ℕ, ◌-◌, ◌^◌, ◌<◌, ◌≤◌, nat_le, Bool, true, false, List, ◌∷◌, ◌++◌, Option, None, Some, IfSome, refl, sym, subst, arith}
 use Rattle.std.proofs.lemmas.Bool.Decides.{nat_tests}
 use Rattle.std.proofs.lemmas.List.Elements.{All-append, All-weaker}
+use Rattle.pipe_base.specs.declared.control.Announced.{Announced}
 use Rattle.pipe_base.specs.declared.message.Entry.{Entry}
 use Rattle.pipe_base.specs.declared.message.Service.{Service}
 use Rattle.pipe_base.specs.declared.message.Service.TheVariants.{BestEffort, Reliable}
+use Rattle.pipe_base.specs.declared.name.HostId.{HostId}
 use Rattle.pipe_base.specs.declared.name.Ts.{Ts}
 use Rattle.pipe_base.specs.declared.packet.Plane.TheVariants as plane
 use Rattle.pipe_base.specs.Clock.{stamp_at}
@@ -17,11 +19,16 @@ use Rattle.pipe_model.specs.declared.event.Event.{Event}
 use Rattle.pipe_model.specs.declared.event.Event.TheVariants.{Send}
 use Rattle.pipe_model.specs.declared.record.Record.{Record}
 use Rattle.pipe_model.specs.Clock.{next}
-use Rattle.pipe_model.specs.Fate.{held}
-use Rattle.pipe_model.specs.Logged.{logged, passed_in}
-use Rattle.pipe_model.specs.Moments.{barrier_at}
-use Rattle.pipe_model.specs.OwnOutcome.{clock_outcome, is_window_full, send_outcome, stamped, where_ok}
+use Rattle.pipe_model.specs.Logged.{logged, passed_in, standing}
+use Rattle.pipe_model.specs.Moments.{barrier_at, noted_hosts}
+use Rattle.pipe_model.specs.OwnOutcome.{clock_outcome, first_failed, is_window_full, send_outcome, stamped, where_ok}
 use Rattle.pipe_model.specs.Sender.{sender_calls}
+use Rattle.pipe_reorder.proofs.Walks.{let_out, out-below}
+
+-- what a barrier within the type lets out is below the end of the type
+pub out_below_end : (b : ℕ) (s : Service) (failed : List Announced) (ms : Messages) → b ≤ 2 ^ 64 - 1 → AreBelow (2 ^ 64 - 1) (let_out s failed b ms)
+out_below_end b s failed ms within =
+    All-weaker (λ (e : Service × Entry). e.1.key.ts.0 < b) (λ (e : Service × Entry). e.1.key.ts.0 < 2 ^ 64 - 1) (λ e lt. omega (arith, lt, within)) (let_out s failed b ms) (out-below s failed b ms)
 
 -- what is below a barrier is below the end of the type, as the barrier is within it
 pub below_end : (b : ℕ) (s : Service) (ms : Messages) → b ≤ 2 ^ 64 - 1 → AreBelow (2 ^ 64 - 1) (logged_of s (below_barrier b ms))
@@ -35,12 +42,13 @@ short_by : (b : Bool) (now next : ℕ) → nat_le (stamp_at now next) last_stamp
 short_by true now next is = rw is (grind (arith, nat_tests, is))
 short_by false now next is = rw is tt
 
-short_where : (full : Bool) (now next : ℕ) → IfSome (where_ok (send_outcome None full now next) (stamp_at now next)) (λ ts. ts.0 ≤ last_stamp)
-short_where true now next = tt
-short_where false now next = short_by (nat_le (stamp_at now next) last_stamp) now next refl
+short_where : (failed : Option HostId) (full : Bool) (now next : ℕ) → IfSome (where_ok (send_outcome failed full now next) (stamp_at now next)) (λ ts. ts.0 ≤ last_stamp)
+short_where (Some host) full now next = tt
+short_where None true now next = tt
+short_where None false now next = short_by (nat_le (stamp_at now next) last_stamp) now next refl
 
 stamps_within : (graph : Graph) (node : ℕ) (own : List Record) (event : Event) → IfSome (stamped graph node own event) (λ ts. ts.0 ≤ last_stamp)
-stamps_within graph node own (Send host service now dests) = short_where (is_window_full service (unsettled (sender_calls graph node own))) now.0 (next own)
+stamps_within graph node own (Send host service now dests) = short_where (first_failed (noted_hosts own) dests) (is_window_full service (unsettled (sender_calls graph node own))) now.0 (next own)
 stamps_within graph node own _ = tt
 
 -- a stamp is within the clock
@@ -52,5 +60,5 @@ pub logged_below_end : (graph : Graph) (node : ℕ) (own : List Record) (r : Rec
     → barrier_at plane.Commit graph node (r ∷ own) ≤ 2 ^ 64 - 1 → AreBelow (2 ^ 64 - 1) (logged graph node own r)
 logged_below_end graph node own r best reliable =
     both_below_end (logged_of BestEffort (passed_in BestEffort graph node own r)) (logged_of Reliable (passed_in Reliable graph node own r))
-    (below_end (barrier_at plane.BestEffort graph node (r ∷ own)) BestEffort (from_barrier (barrier_at plane.BestEffort graph node own) (held BestEffort graph node (r ∷ own))) best)
-    (below_end (barrier_at plane.Commit graph node (r ∷ own)) Reliable (from_barrier (barrier_at plane.Commit graph node own) (held Reliable graph node (r ∷ own))) reliable)
+    (below_end (barrier_at plane.BestEffort graph node (r ∷ own)) BestEffort (from_barrier (barrier_at plane.BestEffort graph node own) (standing BestEffort graph node (r ∷ own))) best)
+    (below_end (barrier_at plane.Commit graph node (r ∷ own)) Reliable (from_barrier (barrier_at plane.Commit graph node own) (standing Reliable graph node (r ∷ own))) reliable)

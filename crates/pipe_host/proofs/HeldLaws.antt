@@ -1,45 +1,122 @@
 -- What a host holds from its barriers on, against all that it ever held.
-use Rattle.std.proofs.Common.{◌≡◌, ◌⊎◌, ℕ, ◌==◌, ◌&&◌, not, Bool, true, false, if◌then◌else◌, Option, None, Some, refl, sym, subst, ap, ◌∙◌, inl, inr}
+use Rattle.std.proofs.Common.{◌≡◌, ◌⊎◌, ℕ, ◌≤◌, ◌==◌, ◌&&◌, not, nat_le, Bool, true, false, List, [], ◌∷◌, if◌then◌else◌, Option, None, Some, refl, sym, subst, ap, ◌∙◌, inl, inr}
 use Rattle.std.specs.Prelude.{nat_lt}
 use Rattle.std.specs.Option.{option_or}
 use Rattle.std.proofs.lemmas.Bool.{ltb-false}
+use Rattle.pipe_base.specs.declared.control.Announced.{Announced}
+use Rattle.pipe_base.specs.declared.message.Key.{Key}
 use Rattle.pipe_base.specs.declared.message.Service.{Service}
 use Rattle.pipe_base.specs.declared.message.Service.TheVariants.{BestEffort, Reliable}
+use Rattle.pipe_base.specs.declared.name.Ts.{Ts}
 use Rattle.pipe_base.specs.declared.packet.Packet.{Packet}
 use Rattle.pipe_base.specs.declared.packet.PacketKind.{PacketKind}
 use Rattle.pipe_base.specs.declared.packet.PacketKind.TheVariants.{Beacon, Plain, Prepare, Ack, Recall, RecallAck}
 use Rattle.pipe_base.specs.declared.step.Fate.{Fate}
 use Rattle.pipe_base.specs.declared.step.Fate.TheVariants.{Held, Repeat, Late, Discarded, Recalled}
+use Rattle.pipe_base.specs.Failed.{is_from, is_void, time_of, without_void}
+use Rattle.pipe_base.specs.Fate.{fate_from, fate_of}
+use Rattle.pipe_base.specs.Fate as fates
 use Rattle.pipe_base.specs.Graph.{Graph, is_host}
-use Rattle.pipe_base.specs.Messages.{Messages, from_barrier, has_key}
+use Rattle.pipe_base.specs.Messages.{IsInOrder, Messages, from_barrier, has_key}
+use Rattle.pipe_base.proofs.KeyOrder.{order_with}
 use Rattle.pipe_base.proofs.MessageLaws.{from_with, has_from}
-use Rattle.pipe_model.specs.Fate.{fate_for, with_held}
-use Rattle.pipe_model.specs.Got.{carries, gets_of, is_beacon, key_of, message_of}
+use Rattle.pipe_model.specs.declared.record.Record.{Record}
+use Rattle.pipe_model.specs.Fate.{fate_for, fate_in, held, with_held}
+use Rattle.pipe_model.specs.Got.{carries, got, gets_of, is_beacon, key_of, message_of}
 use Rattle.pipe_host.specs.declared.buffers.Buffers.{Buffers}
 use Rattle.pipe_reorder.specs.Buffer.{Buffer}
+use Rattle.pipe_reorder.proofs.VoidLaws.{has_standing, standing-with}
 use Rattle.pipe_host.specs.Buffers.{IsFresh, IsNew, buffer_of, fate_among, joined}
 
--- a message at or above the barrier has the fate that all messages ever held give it
-late_from : (late : Bool) (b : ℕ) (ms : Messages) (p : Packet) → nat_lt p.ts.0 b ≡ late
-    → (if late then Late (record { 0 = b }) else if has_key (key_of p) (from_barrier b ms) then Repeat else Held) ≡ (if late then Late (record { 0 = b }) else if has_key (key_of p) ms then Repeat else Held)
-late_from true b ms p is = refl
-late_from false b ms p is = ap (λ (h : Bool). if h then Repeat else Held) (has_from b (key_of p) ms (ltb-false p.ts.0 b is))
+-- what is kept of all messages that were ever held: those from the barrier on that are not void
+abbrev pub kept : ℕ → List Announced → Messages → Messages
+kept b failed ms = from_barrier b (without_void failed ms)
 
-pub fate_from : (b : ℕ) (ms : Messages) (m : Option Packet) → fate_for b (from_barrier b ms) m ≡ fate_for b ms m
-fate_from b ms None = refl
-fate_from b ms (Some p) = ap (λ (f : Fate). Some f) (late_from (nat_lt p.ts.0 b) b ms p refl)
+-- a message that is neither late nor void has the fate that all messages ever held give it
+among_kept : (b : ℕ) (failed : List Announced) (ms : Messages) (k : Key) → b ≤ k.ts.0 → is_void failed k ≡ false → fates.fate_among (kept b failed ms) k ≡ fates.fate_among ms k
+among_kept b failed ms k low stands =
+    ap (λ (h : Bool). if h then Repeat else Held) (has_from b k (without_void failed ms) low ∙ has_standing failed k ms stands)
 
-held_by : (late has : Bool) (b : ℕ) (ms : Messages) (p : Packet) → nat_lt p.ts.0 b ≡ late
-    → with_held (Some (if late then Late (record { 0 = b }) else if has then Repeat else Held)) (Some p) (from_barrier b ms)
-    ≡ from_barrier b (with_held (Some (if late then Late (record { 0 = b }) else if has then Repeat else Held)) (Some p) ms)
-held_by true has b ms p is = refl
-held_by false true b ms p is = refl
-held_by false false b ms p is = sym (from_with b (key_of p) p.body ms (ltb-false p.ts.0 b is))
+discard_kept : (void : Bool) (time : Ts) (b : ℕ) (failed : List Announced) (ms : Messages) (k : Key) → b ≤ k.ts.0 → is_void failed k ≡ void
+    → (if void then Discarded time else fates.fate_among (kept b failed ms) k) ≡ (if void then Discarded time else fates.fate_among ms k)
+discard_kept true time b failed ms k low is = refl
+discard_kept false time b failed ms k low is = among_kept b failed ms k low is
 
--- what is held from the barrier on is what was ever held, from the barrier on
-pub held_from : (b : ℕ) (ms : Messages) (m : Option Packet) → with_held (fate_for b ms m) m (from_barrier b ms) ≡ from_barrier b (with_held (fate_for b ms m) m ms)
-held_from b ms None = refl
-held_from b ms (Some p) = held_by (nat_lt p.ts.0 b) (has_key (key_of p) ms) b ms p refl
+void_kept : (t : Option Ts) (b : ℕ) (failed : List Announced) (ms : Messages) (k : Key) → b ≤ k.ts.0 → time_of k.src.0 failed ≡ t → fate_from t (kept b failed ms) k ≡ fate_from t ms k
+void_kept None b failed ms k low is = among_kept b failed ms k low (ap (λ (o : Option Ts). is_from o k.ts) is)
+void_kept (Some time) b failed ms k low is =
+    discard_kept (nat_le time.0 k.ts.0) time b failed ms k low (ap (λ (o : Option Ts). is_from o k.ts) is)
+
+late_kept : (late : Bool) (b : ℕ) (failed : List Announced) (ms : Messages) (k : Key) → nat_lt k.ts.0 b ≡ late
+    → (if late then Late (record { 0 = b }) else fate_from (time_of k.src.0 failed) (kept b failed ms) k) ≡ (if late then Late (record { 0 = b }) else fate_from (time_of k.src.0 failed) ms k)
+late_kept true b failed ms k is = refl
+late_kept false b failed ms k is = void_kept (time_of k.src.0 failed) b failed ms k (ltb-false k.ts.0 b is) refl
+
+pub fate_kept : (b : ℕ) (failed : List Announced) (ms : Messages) (m : Option Packet) → fate_for b failed (kept b failed ms) m ≡ fate_for b failed ms m
+fate_kept b failed ms None = refl
+fate_kept b failed ms (Some p) = ap (λ (f : Fate). Some f) (late_kept (nat_lt p.ts.0 b) b failed ms (key_of p) refl)
+
+-- ---- a message with the fate held is neither late nor void, and no message has its key
+
+pub record IsHeld (b : ℕ) (failed : List Announced) (ms : Messages) (k : Key) : Type 0 where
+  pub from : b ≤ k.ts.0
+  pub stands : is_void failed k ≡ false
+  pub new : has_key k ms ≡ false
+
+new_by : (has : Bool) → (if has then Repeat else Held) ≡ Held → has ≡ false
+new_by true is = cc
+new_by false is = refl
+
+discarded_by : (void : Bool) (time : Ts) (b : ℕ) (failed : List Announced) (ms : Messages) (k : Key) → b ≤ k.ts.0 → is_void failed k ≡ void
+    → (if void then Discarded time else fates.fate_among ms k) ≡ Held → IsHeld b failed ms k
+discarded_by true time b failed ms k low is held = cc
+discarded_by false time b failed ms k low is held = record { from = low; stands = is; new = new_by (has_key k ms) held }
+
+void_by : (t : Option Ts) (b : ℕ) (failed : List Announced) (ms : Messages) (k : Key) → b ≤ k.ts.0 → time_of k.src.0 failed ≡ t → fate_from t ms k ≡ Held → IsHeld b failed ms k
+void_by None b failed ms k low is held =
+    record { from = low; stands = ap (λ (o : Option Ts). is_from o k.ts) is; new = new_by (has_key k ms) held }
+void_by (Some time) b failed ms k low is held =
+    discarded_by (nat_le time.0 k.ts.0) time b failed ms k low (ap (λ (o : Option Ts). is_from o k.ts) is) held
+
+late_by : (late : Bool) (b : ℕ) (failed : List Announced) (ms : Messages) (k : Key) → nat_lt k.ts.0 b ≡ late
+    → (if late then Late (record { 0 = b }) else fate_from (time_of k.src.0 failed) ms k) ≡ Held → IsHeld b failed ms k
+late_by true b failed ms k is held = cc
+late_by false b failed ms k is held = void_by (time_of k.src.0 failed) b failed ms k (ltb-false k.ts.0 b is) refl held
+
+held_from : (b : ℕ) (failed : List Announced) (ms : Messages) (k : Key) → fate_of b (time_of k.src.0 failed) ms k ≡ Held → IsHeld b failed ms k
+held_from b failed ms k held = late_by (nat_lt k.ts.0 b) b failed ms k refl held
+
+keeps_by : (f : Fate) (b : ℕ) (failed : List Announced) (ms : Messages) (p : Packet) → IsInOrder ms → (f ≡ Held → IsHeld b failed ms (key_of p))
+    → with_held (Some f) (Some p) (kept b failed ms) ≡ kept b failed (with_held (Some f) (Some p) ms)
+keeps_by Held b failed ms p order is =
+    let held = is refl in
+    sym (ap (from_barrier b) (standing-with failed (key_of p) p.body ms order held.stands) ∙ from_with b (key_of p) p.body (without_void failed ms) held.from)
+keeps_by Repeat b failed ms p order is = refl
+keeps_by (Late c) b failed ms p order is = refl
+keeps_by (Discarded t) b failed ms p order is = refl
+keeps_by Recalled b failed ms p order is = refl
+
+-- what is kept with a message is kept of all that was ever held with it
+pub held_kept : (b : ℕ) (failed : List Announced) (ms : Messages) (m : Option Packet) → IsInOrder ms
+    → with_held (fate_for b failed ms m) m (kept b failed ms) ≡ kept b failed (with_held (fate_for b failed ms m) m ms)
+held_kept b failed ms None order = refl
+held_kept b failed ms (Some p) order =
+    keeps_by (fate_of b (time_of p.src.0 failed) ms (key_of p)) b failed ms p order (held_from b failed ms (key_of p))
+
+order_with_held : (f : Option Fate) (m : Option Packet) (ms : Messages) → IsInOrder ms → IsInOrder (with_held f m ms)
+order_with_held None m ms order = order
+order_with_held (Some Held) None ms order = order
+order_with_held (Some Held) (Some p) ms order = order_with (key_of p) p.body ms order
+order_with_held (Some Repeat) m ms order = order
+order_with_held (Some (Late b)) m ms order = order
+order_with_held (Some (Discarded t)) m ms order = order
+order_with_held (Some Recalled) m ms order = order
+
+-- all that was ever held is in order
+pub held_in_order : (service : Service) (graph : Graph) (node : ℕ) (own : List Record) → IsInOrder (held service graph node own)
+held_in_order service graph node [] = tt
+held_in_order service graph node (r ∷ own) =
+    order_with_held (fate_in service graph node own r) (got service graph node own r) (held service graph node own) (held_in_order service graph node own)
 
 -- a host gets the packet that it received, or nothing
 abbrev pub Brought : Packet → Option Packet → Type 0
@@ -69,15 +146,17 @@ new_none (Some (Late b)) ms = tt
 new_none (Some (Discarded t)) ms = tt
 new_none (Some Recalled) ms = tt
 
-new_by : (late has : Bool) (b : ℕ) (p : Packet) (ms : Messages) → has_key (key_of p) ms ≡ has → IsNew (Some (if late then Late (record { 0 = b }) else if has then Repeat else Held)) (Some p) ms
-new_by true has b p ms is = tt
-new_by false true b p ms is = tt
-new_by false false b p ms is = is
+fresh_by : (f : Fate) (b : ℕ) (failed : List Announced) (ms : Messages) (p : Packet) → (f ≡ Held → IsHeld b failed ms (key_of p)) → IsNew (Some f) (Some p) ms
+fresh_by Held b failed ms p is = (is refl).new
+fresh_by Repeat b failed ms p is = tt
+fresh_by (Late c) b failed ms p is = tt
+fresh_by (Discarded t) b failed ms p is = tt
+fresh_by Recalled b failed ms p is = tt
 
 -- a message with the fate held is new
-pub new_for : (b : ℕ) (ms : Messages) (m : Option Packet) → IsNew (fate_for b ms m) m ms
-new_for b ms None = tt
-new_for b ms (Some p) = new_by (nat_lt p.ts.0 b) (has_key (key_of p) ms) b p ms refl
+pub new_for : (b : ℕ) (failed : List Announced) (ms : Messages) (m : Option Packet) → IsNew (fate_for b failed ms m) m ms
+new_for b failed ms None = tt
+new_for b failed ms (Some p) = fresh_by (fate_of b (time_of p.src.0 failed) ms (key_of p)) b failed ms p (held_from b failed ms (key_of p))
 
 -- a packet carries a message of one service at most
 pub apart : (kind : PacketKind) → carries Reliable kind ≡ true → carries BestEffort kind ≡ false
@@ -107,7 +186,7 @@ not_carried service p is = rw is refl
 
 -- the fate of the message of one service
 abbrev pub fate_in_one : Service → Buffers → Option Packet → Option Fate
-fate_in_one service h m = fate_for (buffer_of service h).barrier (buffer_of service h).messages (message_of service m)
+fate_in_one service h m = fate_for (buffer_of service h).barrier (buffer_of service h).failed (buffer_of service h).messages (message_of service m)
 
 -- a packet carries no message of the service, or its fate is that of the one message that it carries
 abbrev Alike : Option Packet → Option Fate → Option Fate → Type 0
@@ -117,13 +196,13 @@ best_alike : (c : Bool) (h : Buffers) (p : Packet) → carries BestEffort p.kind
 best_alike false h p is = inl (not_carried BestEffort p is)
 best_alike true h p is =
     let reliable : Option Fate = fate_in_one Reliable h (Some p) in
-    let fate_for_best : Option Packet → Option Fate = fate_for h.best.barrier h.best.messages in
+    let fate_for_best : Option Packet → Option Fate = fate_for h.best.barrier h.best.failed h.best.messages in
     inr (ap (λ (o : Option Packet). option_or (fate_for_best o) reliable) (carried BestEffort p is) ∙ ap fate_for_best (sym (carried BestEffort p is)))
 
 reliable_alike : (c : Bool) (h : Buffers) (p : Packet) → carries Reliable p.kind ≡ c → Alike (message_of Reliable (Some p)) (fate_among h (Some p)) (fate_in_one Reliable h (Some p))
 reliable_alike false h p is = inl (not_carried Reliable p is)
 reliable_alike true h p is =
-    inr (ap (λ (o : Option Packet). option_or (fate_for h.best.barrier h.best.messages o) (fate_in_one Reliable h (Some p))) (not_carried BestEffort p (apart p.kind is)))
+    inr (ap (λ (o : Option Packet). option_or (fate_for h.best.barrier h.best.failed h.best.messages o) (fate_in_one Reliable h (Some p))) (not_carried BestEffort p (apart p.kind is)))
 
 alike : (service : Service) (h : Buffers) (p : Packet) → Alike (message_of service (Some p)) (fate_among h (Some p)) (fate_in_one service h (Some p))
 alike BestEffort h p = best_alike (carries BestEffort p.kind) h p refl
@@ -152,12 +231,14 @@ fresh h p m (inl none) service = subst (λ (o : Option Packet). IsNew (fate_amon
 fresh h p m (inr some) service =
     subst (λ (o : Option Packet). IsNew (fate_among h o) (message_of service (Some p)) (buffer_of service h).messages) (sym some)
     (same_new (fate_among h (Some p)) (fate_in_one service h (Some p)) (message_of service (Some p)) (buffer_of service h).messages (alike service h p)
-    (new_for (buffer_of service h).barrier (buffer_of service h).messages (message_of service (Some p))))
+    (new_for (buffer_of service h).barrier (buffer_of service h).failed (buffer_of service h).messages (message_of service (Some p))))
 
--- the messages from the barrier on, with what joins them, are those of all that were ever held with it
-pub joined_from : (f : Option Fate) (o m : Option Packet) (b : ℕ) (ms : Messages) → with_held f o (from_barrier b ms) ≡ with_held (fate_for b (from_barrier b ms) m) m (from_barrier b ms)
-    → with_held f o (from_barrier b ms) ≡ from_barrier b (with_held (fate_for b ms m) m ms)
-joined_from f o m b ms is = is ∙ ap (λ (g : Option Fate). with_held g m (from_barrier b ms)) (fate_from b ms m) ∙ held_from b ms m
+-- the messages that are kept, with what joins them, are kept of all that were ever held with it
+pub joined_kept : (f : Option Fate) (o m : Option Packet) (b : ℕ) (failed : List Announced) (ms : Messages) → IsInOrder ms
+    → with_held f o (kept b failed ms) ≡ with_held (fate_for b failed (kept b failed ms) m) m (kept b failed ms)
+    → with_held f o (kept b failed ms) ≡ kept b failed (with_held (fate_for b failed ms m) m ms)
+joined_kept f o m b failed ms order is =
+    is ∙ ap (λ (g : Option Fate). with_held g m (kept b failed ms)) (fate_kept b failed ms m) ∙ held_kept b failed ms m order
 
 -- a packet that carries no message of the service leaves its buffer alone
 pub not_joined : (service : Service) (f : Option Fate) (p : Packet) (b : Buffer) → carries service p.kind ≡ false → joined service f p b ≡ b

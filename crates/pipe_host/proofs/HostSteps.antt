@@ -1,6 +1,9 @@
 -- That what a host does with a packet, at a tick and with a control message is what it owes.
-use Rattle.std.proofs.Common.{◌≡◌, ℕ, ◌&&◌, if◌then◌else◌, Bool, true, false, List, [], ◌∷◌, ◌++◌, map, filter, Option, None, Some, refl, sym, subst, ap, ◌∙◌, arith, append-nil, zero-add, inl, inr}
+use Rattle.std.proofs.Common.{◌≡◌, ℕ, ◌-◌, ◌&&◌, if◌then◌else◌, Bool, true, false, List, [], ◌∷◌, ◌++◌, length, drop, map, filter, Option, None, Some, refl, sym, subst, ap, ◌∙◌, arith, append-nil, zero-add, inl, inr}
+use Rattle.std.proofs.lemmas.List.{length-append}
+use Rattle.std.proofs.Math.Seq.{drop-append_seam}
 use Rattle.pipe_base.specs.declared.control.Addressed.{Addressed}
+use Rattle.pipe_base.specs.declared.control.Announced.{Announced}
 use Rattle.pipe_base.specs.declared.control.Control.{Control}
 use Rattle.pipe_base.specs.declared.message.Entry.{Entry}
 use Rattle.pipe_base.specs.declared.message.Service.{Service}
@@ -33,16 +36,17 @@ use Rattle.pipe_model.specs.declared.record.Record.{Record}
 use Rattle.pipe_model.specs.Clock.{next, promise}
 use Rattle.pipe_model.specs.Duties.{fields, host_be, owed_by_half, owed_by_host, owed_by_take}
 use Rattle.pipe_model.specs.Got.{carries, gets, gets_of}
-use Rattle.pipe_model.specs.Marks.{told_marks}
-use Rattle.pipe_model.specs.Moments.{known_drops, moments_of, quiet_calls, received}
+use Rattle.pipe_model.specs.Marks.{told_hosts}
+use Rattle.pipe_model.specs.Moments.{known_drops, moments_of, noted_hosts, quiet_calls, received}
 use Rattle.pipe_model.specs.Run.{IsNodeStep}
 use Rattle.pipe_model.specs.Sender.{is_ack, sender_calls, with_answer}
 use Rattle.pipe_model.proofs.Steps.{no_drop, taken_ignored, taken_received}
 use Rattle.pipe_relsend.proofs.SendingLaws.{promise_first}
 use Rattle.pipe_host.specs.declared.host.Host.{Host}
-use Rattle.pipe_host.specs.Buffers.{fate_among, logged_by}
+use Rattle.pipe_host.specs.declared.buffers.Buffers.{Buffers}
+use Rattle.pipe_host.specs.Buffers.{all_noting, fate_among, last_of, logged_by}
 use Rattle.pipe_host.specs.Host.{Stands, StandsWith, buffers_with}
-use Rattle.pipe_host.specs.Steps.{IsReceipt, acks_for, fields_after, taken, ticked, told}
+use Rattle.pipe_host.specs.Steps.{IsObeying, IsReceipt, acks_for, fields_after, taken, ticked, told}
 use Rattle.pipe_host.proofs.HeldLaws.{Brought, brought}
 use Rattle.pipe_host.proofs.RecordLaws.{fate_with, logs, still_buffers, still_fate, still_logged}
 
@@ -120,6 +124,10 @@ answers_none p m calls (inr some) other = ap (λ (o : Option Packet). with_answe
 
 -- ---- steps
 
+-- a step that is told nothing of failed hosts notes none
+pub notes_none : (graph : Graph) (node : ℕ) → is_host graph node ≡ true → ◌≡◌ {A = List Announced} [] (if is_host graph node then [] else [])
+notes_none graph node host = sym (chosen {A = List Announced} (is_host graph node) [] [] host)
+
 -- a packet on a link that is not up
 pub ignores : (graph : Graph) (node : ℕ) (own : List Record) (link : LinkId) (p : Packet) (place : ℕ) (keep : Bool) → is_host graph node ≡ true
     → is_up (moments_of own) link.0 ≡ false → IsNodeStep graph node own (taken link p place keep (quiet_step Ignored))
@@ -132,7 +140,7 @@ ignores graph node own link p place keep host down =
       outcome_is = ignored_where_down (is_up (moments_of own) link.0) down;
       downed_is = refl;
       dropped_is = refl;
-      noted_is = refl;
+      noted_is = notes_none graph node host;
       stamped_is = refl;
       fate_is = still_fate graph node own r none;
       logged_is = still_logged graph node own r same;
@@ -177,15 +185,16 @@ receives graph node own link p place keep all k step stands up fate_is receipt =
     owed_at_host graph node own r (fields graph node own r) holds.host
     ∙ ap (owed_by_host node (fields graph node own r) all) gets_is
     ∙ owed_ack node (fields graph node own r) f all p m (brought graph node link.0 p) no_fate fields_are in
-    subst (λ (x : Step). IsNodeStep graph node own (taken link p place keep x)) (sym (receipt.step_is graph node own holds.links_are))
+    let step_is : step ≡ s = receipt.step_is graph node own holds.links_are in
+    subst (λ (x : Step). IsNodeStep graph node own (taken link p place keep x)) (sym step_is)
     (record {
       outcome_is = ok_where_up (is_up (moments_of own) link.0) up;
       downed_is = refl;
       dropped_is = refl;
-      noted_is = refl;
+      noted_is = notes_none graph node holds.host;
       stamped_is = refl;
       fate_is = fate_is ∙ fate_with graph node own r q got;
-      logged_is = ap (logged_by b) holds.held_are ∙ logs graph node own r b are;
+      logged_is = ap (logged_by b) (holds.held_are ∙ ap (λ (x : Step). buffers_with graph node own (taken link p place keep x ∷ own)) step_is) ∙ logs graph node own r b are;
       put_is =
           sym (append-nil (routed (route graph (known_drops (r ∷ own)) node) (owed_by_take graph node (fields graph node own r) own r))
           ∙ ap (λ (ls : List LinkId). routed (route graph ls node) (owed_by_take graph node (fields graph node own r) own r)) drops_now
@@ -228,10 +237,10 @@ ticks graph node own now marks tells b n k step stands marks_are tells_are are n
       outcome_is = refl;
       downed_is = marks_are;
       dropped_is = refl;
-      noted_is = refl;
+      noted_is = notes_none graph node.0 stands.host;
       stamped_is = refl;
       fate_is = refl;
-      logged_is = ap (logged_by b) (stands.held_are ∙ sym (still_buffers graph node.0 own r refl)) ∙ logs graph node.0 own r b are;
+      logged_is = ap (logged_by b) (stands.held_are ∙ sym (still_buffers graph node.0 own r refl refl)) ∙ logs graph node.0 own r b are;
       put_is =
           sym (ap (λ (bs : List (LinkId × Packet)). routed (route graph (known_drops (r ∷ own)) node.0) (resent (fields graph node.0 own r)) ++ bs) beacons_are
           ∙ ap (λ (ls : List LinkId). routed (route graph ls node.0) (resent (fields graph node.0 own r)) ++ map (λ (l : LinkId). (l, beacon f)) (outs_of graph node.0)) drops_now
@@ -243,23 +252,47 @@ ticks graph node own now marks tells b n k step stands marks_are tells_are are n
       control_is = tells_are ∙ tells_marks graph node.0 own r stands.links_are.history marks_are;
     })
 
+-- the last ones of a list that was made longer
+last_new : (news noted : List Announced) (count : ℕ) → count ≡ length news → last_of count (noted ++ news) ≡ news
+last_new news noted count is =
+    let before : length (noted ++ news) - count ≡ length noted = omega (arith, length-append noted news, is) in
+    ap (λ (n : ℕ). drop n (noted ++ news)) before ∙ drop-append_seam noted news
+
+-- what the step of a control message notes
+pub obeyed_notes : (graph : Graph) (node : NodeId) (own : List Record) (control : Control) (count : ℕ) (h : Buffers) (k : Host) (step : Step)
+    → h ≡ buffers_with graph node.0 own own → k.held ≡ all_noting (told_hosts h.reliable.failed control) h → count ≡ length (told_hosts h.reliable.failed control)
+    → IsObeying k control count step → step.noted ≡ told_hosts (noted_hosts own) control
+obeyed_notes graph node own control count h k step was held_is count_is obeying =
+    let news : List Announced → List Announced = λ noted. told_hosts noted control in
+    let noted_are : h.reliable.failed ≡ noted_hosts own = ap (λ (b : Buffers). b.reliable.failed) was in
+    ap (λ (s : Step). s.noted) obeying.step_is
+    ∙ ap (λ (b : Buffers). last_of count b.reliable.failed) held_is
+    ∙ last_new (news h.reliable.failed) h.reliable.failed count count_is
+    ∙ ap news noted_are
+
 -- a control message
-pub obeys : (graph : Graph) (node : NodeId) (own : List Record) (control : Control) (place : ℕ) (keep : Bool) (marks : List (LinkId × Ts)) (b : Barriers) (k : Host) (step : Step)
-    → Stands graph node.0 own k → marks ≡ told_marks (ins_of graph node.0) (moments_of own) control → AreBarriers (ins_of graph node.0) (with_downed marks (moments_of own)) b
-    → step ≡ record (quiet_step Ok) { downed = marks; logged = logged_by b k.held } → IsNodeStep graph node.0 own (told node control place keep step)
-obeys graph node own control place keep marks b k step stands marks_are are step_is =
-    let s : Step = record (quiet_step Ok) { downed = marks; logged = logged_by b k.held } in
-    let r : Record = told node control place keep s in
-    subst (λ (x : Step). IsNodeStep graph node.0 own (told node control place keep x)) (sym step_is)
-    (record {
-      outcome_is = refl;
-      downed_is = marks_are;
-      dropped_is = refl;
-      noted_is = refl;
-      stamped_is = refl;
-      fate_is = refl;
-      logged_is = ap (logged_by b) (stands.held_are ∙ sym (still_buffers graph node.0 own r refl)) ∙ logs graph node.0 own r b are;
-      put_is = refl;
-      unrouted_is = refl;
-      control_is = refl;
-    })
+pub obeys : (graph : Graph) (node : NodeId) (own : List Record) (control : Control) (place : ℕ) (keep : Bool) (count : ℕ) (k : Host) (step : Step)
+    → StandsWith graph node.0 own (told node control place keep step) k → step.noted ≡ told_hosts (noted_hosts own) control → IsObeying k control count step
+    → IsNodeStep graph node.0 own (told node control place keep step)
+obeys graph node own control place keep count k step stands noted_are obeying =
+    let r : Record = told node control place keep step in
+    let holds = stands.holds in
+    let b : Barriers = obeying.barriers in
+    let is : step ≡ record (quiet_step Ok) { downed = obeying.marks; noted = last_of count k.held.reliable.failed; logged = logged_by b k.held } = obeying.step_is in
+    let downed : step.downed ≡ obeying.marks = ap (λ (s : Step). s.downed) is in
+    let dropped : step.dropped ≡ [] = ap (λ (s : Step). s.dropped) is in
+    let moments_are : moments_of (r ∷ own) ≡ with_downed obeying.marks (moments_of own) = rw (dropped, downed) refl in
+    let are : AreBarriers (ins_of graph node.0) (moments_of (r ∷ own)) b =
+    subst (λ (ms : List Moment). AreBarriers (ins_of graph node.0) ms b) (sym moments_are) (obeying.barriers_are graph node.0 own holds.links_are) in
+    record {
+      outcome_is = ap (λ (s : Step). s.outcome) is;
+      downed_is = downed ∙ obeying.marks_are graph node.0 own holds.links_are;
+      dropped_is = dropped;
+      noted_is = noted_are ∙ sym (chosen {A = List Announced} (is_host graph node.0) (told_hosts (noted_hosts own) control) [] holds.host);
+      stamped_is = ap (λ (s : Step). s.stamped) is;
+      fate_is = ap (λ (s : Step). s.fate) is;
+      logged_is = ap (λ (s : Step). s.logged) is ∙ ap (logged_by b) holds.held_are ∙ logs graph node.0 own r b are;
+      put_is = ap (λ (s : Step). s.put) is;
+      unrouted_is = ap (λ (s : Step). s.unrouted) is;
+      control_is = ap (λ (s : Step). s.control) is;
+    }

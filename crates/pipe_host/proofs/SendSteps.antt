@@ -25,20 +25,21 @@ use Rattle.pipe_model.specs.declared.event.Event.TheVariants.{Send}
 use Rattle.pipe_model.specs.declared.record.Record.{Record}
 use Rattle.pipe_model.specs.Clock.{next}
 use Rattle.pipe_model.specs.Duties.{fields}
-use Rattle.pipe_model.specs.Moments.{known_drops}
-use Rattle.pipe_model.specs.OwnOutcome.{clock_outcome, is_window_full, own_outcome, send_outcome, where_ok}
+use Rattle.pipe_model.specs.Moments.{known_drops, noted_hosts}
+use Rattle.pipe_model.specs.OwnOutcome.{clock_outcome, first_failed, is_window_full, own_outcome, send_outcome, where_ok}
 use Rattle.pipe_model.specs.Run.{IsNodeStep}
 use Rattle.pipe_model.specs.Sender.{sender_calls, with_begun}
 use Rattle.pipe_model.proofs.Promises.{begun_below_next}
 use Rattle.pipe_relsend.specs.Preparation.{Preparation}
 use Rattle.pipe_relsend.specs.Sending as sending
 use Rattle.pipe_relsend.proofs.SendingLaws.{count_left, promise_begun, promise_first, stands_begun}
+use Rattle.pipe_host.specs.declared.buffers.Buffers.{Buffers}
 use Rattle.pipe_host.specs.declared.host.Host.{Host}
 use Rattle.pipe_host.specs.declared.sending.Stamp.{Stamp}
 use Rattle.pipe_host.specs.Host.{Stands}
 use Rattle.pipe_host.specs.Sending.{IsRefused, IsStamped, begun_by, is_full, promise_with}
 use Rattle.pipe_host.specs.Steps.{sent}
-use Rattle.pipe_host.proofs.HostSteps.{fields_of_host}
+use Rattle.pipe_host.proofs.HostSteps.{fields_of_host, notes_none}
 use Rattle.pipe_host.proofs.RecordLaws.{still_logged}
 
 -- the window of the host is that of its sender
@@ -48,10 +49,11 @@ window_is Reliable calls pending stands = ap (nat_le most_unsettled) (count_left
 
 -- what is answered to a send is what the host's own records give
 outcome_is : (graph : Graph) (host : HostId) (own : List Record) (service : Service) (now : Ts) (dests : List (HostId × List ℕ)) (k : Host) → Stands graph host.0 own k
-    → send_outcome None (is_full service k.sender) now.0 k.clock.next.0 ≡ own_outcome graph host.0 own (Send host service now dests)
+    → send_outcome (first_failed k.held.reliable.failed dests) (is_full service k.sender) now.0 k.clock.next.0 ≡ own_outcome graph host.0 own (Send host service now dests)
 outcome_is graph host own service now dests k stands =
-    ap (λ (full : Bool). send_outcome None full now.0 k.clock.next.0) (window_is service (sender_calls graph host.0 own) k.sender stands.sender_is)
-    ∙ ap (λ (n : ℕ). send_outcome None (is_window_full service (unsettled (sender_calls graph host.0 own))) now.0 n) stands.next_is
+    ap (λ (h : Buffers). send_outcome (first_failed h.reliable.failed dests) (is_full service k.sender) now.0 k.clock.next.0) stands.held_are
+    ∙ ap (λ (full : Bool). send_outcome (first_failed (noted_hosts own) dests) full now.0 k.clock.next.0) (window_is service (sender_calls graph host.0 own) k.sender stands.sender_is)
+    ∙ ap (λ (n : ℕ). send_outcome (first_failed (noted_hosts own) dests) (is_window_full service (unsettled (sender_calls graph host.0 own))) now.0 n) stands.next_is
 
 accepted : (now n : ℕ) → stamp_at now n ≤ last_stamp → Ok ≡ clock_outcome now n
 accepted now n fits = let test : nat_le (stamp_at now n) last_stamp ≡ true = le-leb (stamp_at now n) last_stamp fits in rw test refl
@@ -80,7 +82,7 @@ stamp_above_begun graph node own stamp above =
 
 -- a send that is refused
 pub refuses : (graph : Graph) (host : HostId) (own : List Record) (service : Service) (now : Ts) (dests : List (HostId × List ℕ)) (outcome : Outcome) (k : Host) (step : Step)
-    → Stands graph host.0 own k → IsRefused k service now outcome → step ≡ quiet_step outcome → IsNodeStep graph host.0 own (sent host service now dests step)
+    → Stands graph host.0 own k → IsRefused k service now dests outcome → step ≡ quiet_step outcome → IsNodeStep graph host.0 own (sent host service now dests step)
 refuses graph host own service now dests outcome k step stands refused step_is =
     let r : Record = sent host service now dests (quiet_step outcome) in
     let is : outcome ≡ own_outcome graph host.0 own (Send host service now dests) = refused.outcome_is ∙ outcome_is graph host own service now dests k stands in
@@ -89,7 +91,7 @@ refuses graph host own service now dests outcome k step stands refused step_is =
       outcome_is = is;
       downed_is = refl;
       dropped_is = refl;
-      noted_is = refl;
+      noted_is = notes_none graph host.0 stands.host;
       stamped_is = sym (refused.unstamped (stamp_at now.0 (next own))) ∙ ap {B = Option Ts} (λ (o : Outcome). where_ok o (stamp_at now.0 (next own))) is;
       fate_is = refl;
       logged_is = still_logged graph host.0 own r refl;
@@ -100,7 +102,7 @@ refuses graph host own service now dests outcome k step stands refused step_is =
 
 -- a send that is stamped
 pub sends : (graph : Graph) (host : HostId) (own : List Record) (service : Service) (now : Ts) (dests : List (HostId × List ℕ)) (s : Stamp) (k : Host) (step : Step)
-    → Stands graph host.0 own k → 0 < length dests → IsStamped k service now s
+    → Stands graph host.0 own k → 0 < length dests → IsStamped k service now dests s
     → step ≡ with_ways (route graph [] host.0) (map (sent_to service host s.ts (record { be = s.ts.0; commit = s.promise.0 })) dests) (record (quiet_step Ok) { stamped = Some s.ts })
     → IsNodeStep graph host.0 own (sent host service now dests step)
 sends graph host own service now dests s k step stands some stamped step_is =
@@ -114,6 +116,7 @@ sends graph host own service now dests s k step stands some stamped step_is =
     let outcome : Ok ≡ own_outcome graph host.0 own (Send host service now dests) =
     accepted now.0 k.clock.next.0 (subst (λ (n : ℕ). n ≤ last_stamp) stamped.stamp_is stamped.within)
     ∙ ap (λ (full : Bool). send_outcome None full now.0 k.clock.next.0) (sym stamped.room)
+    ∙ ap (λ (o : Option HostId). send_outcome o (is_full service k.sender) now.0 k.clock.next.0) (sym stamped.none_failed)
     ∙ outcome_is graph host own service now dests k stands in
     let above : next own ≤ ts.0 = omega (arith, stamp_is) in
     let next_is : next (r ∷ own) ≡ ts.0 + 1 = omega (arith, stamp_is) in
@@ -127,7 +130,7 @@ sends graph host own service now dests s k step stands some stamped step_is =
       outcome_is = outcome;
       downed_is = refl;
       dropped_is = refl;
-      noted_is = refl;
+      noted_is = notes_none graph host.0 stands.host;
       stamped_is = ap {B = Option Ts} (λ (n : ℕ). Some (record { 0 = n })) stamp_is ∙ ap {B = Option Ts} (λ (o : Outcome). where_ok o (stamp_at now.0 (next own))) outcome;
       fate_is = refl;
       logged_is = still_logged graph host.0 own r refl;

@@ -1,6 +1,7 @@
 -- The held messages of both services.
-use Rattle.std.specs.Prelude.{◌≡◌, false, List, ◌++◌, Option, Some}
+use Rattle.std.specs.Prelude.{◌≡◌, ℕ, ◌-◌, false, List, ◌++◌, length, drop, Option, Some}
 use Rattle.std.specs.Option.{option_or}
+use Rattle.pipe_base.specs.declared.control.Announced.{Announced}
 use Rattle.pipe_base.specs.declared.message.Entry.{Entry}
 use Rattle.pipe_base.specs.declared.message.Service.{Service}
 use Rattle.pipe_base.specs.declared.message.Service.TheVariants.{BestEffort, Reliable}
@@ -11,7 +12,7 @@ use Rattle.pipe_base.specs.Messages.{Messages, has_key}
 use Rattle.pipe_barrier.specs.declared.registers.Barriers.{Barriers}
 use Rattle.pipe_model.specs.Fate.{fate_for, with_held}
 use Rattle.pipe_model.specs.Got.{key_of, message_of}
-use Rattle.pipe_reorder.specs.Buffer.{Buffer, left_by, passed_by}
+use Rattle.pipe_reorder.specs.Buffer.{Buffer, left_by, passed_by, with_failed}
 use Rattle.pipe_host.specs.declared.buffers.Buffers.{Buffers}
 
 -- the buffer of a service
@@ -22,8 +23,8 @@ buffer_of Reliable buffers = buffers.reliable
 -- the fate of the message that a host gets, of whichever service
 abbrev pub fate_among : Buffers → Option Packet → Option Fate
 fate_among buffers got =
-    option_or (fate_for buffers.best.barrier buffers.best.messages (message_of BestEffort got))
-    (fate_for buffers.reliable.barrier buffers.reliable.messages (message_of Reliable got))
+    option_or (fate_for buffers.best.barrier buffers.best.failed buffers.best.messages (message_of BestEffort got))
+    (fate_for buffers.reliable.barrier buffers.reliable.failed buffers.reliable.messages (message_of Reliable got))
 
 -- the buffer of a service, and in it the message of a packet that has the fate held
 abbrev pub joined : Service → Option Fate → Packet → Buffer → Buffer
@@ -31,6 +32,14 @@ joined service fate p buffer = record buffer { messages = with_held fate (messag
 
 abbrev pub all_joined : Option Fate → Packet → Buffers → Buffers
 all_joined fate p buffers = record { best = joined BestEffort fate p buffers.best; reliable = joined Reliable fate p buffers.reliable }
+
+-- the buffers with these failed hosts after those that are noted: reliable messages alone are void by them
+abbrev pub all_noting : List Announced → Buffers → Buffers
+all_noting failed buffers = record { best = buffers.best; reliable = with_failed failed buffers.reliable }
+
+-- the last so many of a list
+abbrev pub last_of : {A : Type 0} → ℕ → List A → List A
+last_of count list = drop (length list - count) list
 
 -- a message with the fate held was not among these
 abbrev pub IsNew : Option Fate → Option Packet → Messages → Type 0

@@ -16,7 +16,7 @@ use Rattle.pipe_base.specs.declared.step.Step.{Step}
 use Rattle.pipe_base.specs.Clock.{after_logged}
 use Rattle.pipe_base.specs.Fate.{is_holding}
 use Rattle.pipe_base.specs.Graph.{Graph, ins_of}
-use Rattle.pipe_base.specs.Moment.{Received}
+use Rattle.pipe_base.specs.Moment.{Received, with_downed}
 use Rattle.pipe_base.specs.Packets.{Fields, ack_to}
 use Rattle.pipe_base.specs.ShortestRoute.{route}
 use Rattle.pipe_base.specs.Step.{quiet_step}
@@ -28,11 +28,12 @@ use Rattle.pipe_model.specs.declared.event.Event.TheVariants.{ControlTake, Send,
 use Rattle.pipe_model.specs.declared.record.Record.{Record}
 use Rattle.pipe_model.specs.declared.record.Took.TheVariants.{Link, Message, Nothing}
 use Rattle.pipe_model.specs.Got.{carries}
+use Rattle.pipe_model.specs.Marks.{told_marks}
 use Rattle.pipe_model.specs.Moments.{moments_of}
 use Rattle.pipe_relsend.specs.Preparation.{Preparation}
 use Rattle.pipe_relsend.specs.Sending.{first_or}
 use Rattle.pipe_host.specs.declared.host.Host.{Host}
-use Rattle.pipe_host.specs.Buffers.{logged_by}
+use Rattle.pipe_host.specs.Buffers.{last_of, logged_by}
 
 -- a host sends a scattering of a service
 abbrev pub sent : HostId → Service → Ts → List (HostId × List ℕ) → Step → Record
@@ -71,3 +72,14 @@ pub record IsReceipt (k : Host) (link : LinkId) (p : Packet) (fate : Option Fate
   pub step_is : (graph : Graph) (node : ℕ) (own : List Record) → links.Stands graph node own k.links
       → step ≡ with_ways (route graph [] node) (acks_for (record { 0 = node }) (fields_after (logged_by barriers k.held) k) fate p)
       (record (quiet_step Ok) { fate = fate; logged = logged_by barriers k.held })
+
+-- The step of a control message by which so many hosts are noted already: what it tells goes down, and what the barriers pass
+-- then is logged.
+pub record IsObeying (k : Host) (control : Control) (count : ℕ) (step : Step) : Type 0 where
+  pub marks : List (LinkId × Ts)
+  pub barriers : Barriers
+  pub marks_are : (graph : Graph) (node : ℕ) (own : List Record) → links.Stands graph node own k.links
+      → marks ≡ told_marks (ins_of graph node) (moments_of own) control
+  pub barriers_are : (graph : Graph) (node : ℕ) (own : List Record) → links.Stands graph node own k.links
+      → AreBarriers (ins_of graph node) (with_downed marks (moments_of own)) barriers
+  pub step_is : step ≡ record (quiet_step Ok) { downed = marks; noted = last_of count k.held.reliable.failed; logged = logged_by barriers k.held }

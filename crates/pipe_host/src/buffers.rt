@@ -1,18 +1,20 @@
 // The messages that a host holds, of both services.
-ghost use Rattle.std.specs.Prelude.{◌≡◌, ◌++◌, ◌-◌, ◌^◌, Some, IfOk, OnErr, OnOk};
+ghost use Rattle.std.specs.Prelude.{◌≡◌, ◌++◌, ◌-◌, ◌^◌, List, Some, length, IfOk, OnErr, OnOk};
+ghost use Rattle.pipe_base.specs.declared.control.Announced.{Announced};
 ghost use Rattle.pipe_base.specs.declared.message.Service.TheVariants.{BestEffort, Reliable};
 ghost use Rattle.pipe_base.specs.Messages.{AreBelow};
-ghost use Rattle.pipe_reorder.specs.Buffer.{empty_buffer, passed_by};
+ghost use Rattle.pipe_model.specs.Marks.{told_hosts};
+ghost use Rattle.pipe_reorder.specs.Buffer.{empty_buffer, passed_by, with_no_void};
 ghost use Rattle.pipe_host.specs.declared.buffers.Buffers.{Buffers as ABuffers};
-ghost use Rattle.pipe_host.specs.Buffers.{IsFresh, all_joined, all_left, buffer_of, fate_among};
+ghost use Rattle.pipe_host.specs.Buffers.{IsFresh, all_joined, all_left, all_noting, buffer_of, fate_among};
 
 use crate::fates::{self, carries, key_of};
 use pipe_barrier::Barriers;
-use pipe_base::{Fate, LoggedList, NoMemory, Packet, Service};
+use pipe_base::{Control, Fate, LoggedList, NoMemory, Noted, Packet, Service};
 use pipe_reorder::Reorder;
 use std::alloc::Global;
 
-/// A buffer for each service.
+/// A buffer for each service. Failed hosts are noted in that of reliable messages alone, as no others are void by them.
 #[derive(Drop)]
 pub struct Buffers {
     best: Reorder,
@@ -38,6 +40,39 @@ impl Buffers {
             Service::BestEffort => &self.best,
             Service::Reliable => &self.reliable,
         }
+    }
+
+    /// The failed hosts that are noted.
+    pub fn noted(&self) -> &Noted
+        ensures { result.now ≡ self.now.reliable.failed }
+    {
+        self.reliable.failed()
+    }
+
+    /// Notes the failed hosts that a control message tells, past the number of those noted, and answers how many.
+    pub fn adopt(&mut self, control: &Control) -> Result<usize, NoMemory>
+        ensures ok { OnOk result (self.new ≡ all_noting (told_hosts self.old.reliable.failed control.now) self.old) }
+        ensures count { IfOk result (λ count. count ≡ length (told_hosts self.old.reliable.failed control.now)) }
+        ensures err { OnErr result (self.new ≡ self.old) }
+    {
+        match control {
+            Control::Notice { list } => self.reliable.adopt(list),
+            _ => Ok(0),
+        }
+    }
+
+    /// Notes the last so many failed hosts no more: the way back from an `adopt` that answered this count. Takes no memory.
+    pub fn unadopt(&mut self, count: usize)
+        ensures { (before : ABuffers) (failed : List Announced) → count ≡ length failed → self.old ≡ all_noting failed before → self.new ≡ before }
+    {
+        self.reliable.unadopt(count);
+    }
+
+    /// Holds the messages no more that are void. Takes no memory.
+    pub fn drop_void(&mut self)
+        ensures { self.new ≡ record self.old { reliable = with_no_void self.old.reliable } }
+    {
+        self.reliable.drop_void();
     }
 
     /// What becomes of the message of a packet that comes now, if it carries one.
@@ -79,7 +114,7 @@ impl Buffers {
         }
     }
 
-    /// Appends the held messages below the barrier of their service, best effort first.
+    /// Appends the held messages below the barrier of their service that are not void, best effort first.
     pub fn copy_passed(&self, barriers: Barriers, out: &mut LoggedList) -> Result<(), NoMemory>
         ensures ok { OnOk result (out.new ≡ (out.old ++ passed_by barriers.be.0 self.now.best) ++ passed_by barriers.commit.0 self.now.reliable) }
         ensures within { OnOk result (AreBelow (2 ^ 64 - 1) out.old → AreBelow (2 ^ 64 - 1) out.new) }

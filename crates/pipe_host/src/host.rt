@@ -9,7 +9,7 @@ ghost use Rattle.pipe_links.specs.Links as links;
 ghost use Rattle.pipe_model.specs.declared.record.Record.{Record as ARecord};
 ghost use Rattle.pipe_model.specs.Acting.{ComesIn};
 ghost use Rattle.pipe_model.specs.Clock.{next, promise};
-ghost use Rattle.pipe_model.specs.Moments.{moments_of};
+ghost use Rattle.pipe_model.specs.Moments.{moments_of, noted_hosts};
 ghost use Rattle.pipe_model.specs.Run.{IsNodeStep};
 ghost use Rattle.pipe_model.specs.Sender.{sender_calls};
 ghost use Rattle.pipe_relsend.specs.Sending as sending;
@@ -17,12 +17,12 @@ ghost use Rattle.pipe_host.specs.Host.{Does, Stands, StandsWith, buffer_with};
 ghost use Rattle.pipe_host.specs.Steps.{sent, taken, ticked, told};
 
 use crate::buffers::Buffers;
-use crate::records::{acknowledge, give_back, take_back};
+use crate::records::{acknowledge, give_back, let_out, take_back};
 use crate::times::follow;
 use pipe_barrier::Registers;
 use pipe_base::{
-    Addressed, Control, DestList, HostId, LinkId, NoMemory, NodeId, Outcome, Packet, Service, Step,
-    To, Ts,
+    Addressed, Control, DestList, HostId, LinkId, NoMemory, NodeId, Noted, Outcome, Packet,
+    Service, Step, To, Ts,
 };
 use pipe_clock::HostClock;
 use pipe_links::Links;
@@ -32,12 +32,12 @@ use pipe_reorder::Reorder;
 use pipe_topo::Topology;
 use std::alloc::Global;
 
-/// A host: the registers of the links into it, its clock, the sender of its reliable scatterings, and the messages that it
-/// holds. Contracts speak of any records of its own for which it stands.
+/// A host: the registers of the links into it, its clock, the sender of its reliable scatterings, the messages that it holds,
+/// and the failed hosts that it has noted. Contracts speak of any records of its own for which it stands.
 ///
 /// A step goes in two phases, for a caller that may still refuse it: `work_send`, `work_take`, `work_tick` or `work_control`
-/// works it out, and then either `follow` takes its record over or `undo` gives back what was held or begun for it. `send`,
-/// `take`, `tick` and `control` are both phases in one call.
+/// works it out, and then either `follow` takes its record over or `undo` gives back what was held, noted or begun for it.
+/// `send`, `take`, `tick` and `control` are both phases in one call.
 #[derive(Drop)]
 pub struct Host {
     pub(crate) alloc: Global,
@@ -92,12 +92,19 @@ impl Host {
         self.links.registers()
     }
 
-    /// The messages of a service that are held, from the barrier of its plane on.
+    /// The messages of a service that are held: from the barrier of its plane on, without those that are void.
     pub fn held(&self, service: Service) -> &Reorder
         ensures { (graph : Graph) (node : ℕ) (own : List ARecord) → Stands graph node own self.now
             → result.now ≡ buffer_with service graph node own own }
     {
         self.held.of(service)
+    }
+
+    /// The failed hosts that are noted, in the order in which the host came to know of them.
+    pub fn noted(&self) -> &Noted
+        ensures { (graph : Graph) (node : ℕ) (own : List ARecord) → Stands graph node own self.now → result.now ≡ noted_hosts own }
+    {
+        self.held.noted()
     }
 
     /// The sender: the reliable scatterings that are not settled.
@@ -117,10 +124,10 @@ impl Host {
         acknowledge(&mut self.sender, &self.links, made);
         self.links.follow(made);
         follow(&mut self.clock, made);
-        self.held.drop_passed(self.links.barriers());
+        let_out(&mut self.held, self.links.barriers(), made);
     }
 
-    /// Gives back what was held or begun for a step that was worked out and is refused. Takes no memory.
+    /// Gives back what was held, noted or begun for a step that was worked out and is refused. Takes no memory.
     pub fn undo(&mut self, made: &Record)
         ensures { (graph : Graph) (node : ℕ) (own : List ARecord) → StandsWith graph node own made.now self.old
             → IsNodeStep graph node own made.now → Stands graph node own self.new }

@@ -1,25 +1,55 @@
 // How a host works out a control message.
-ghost use Rattle.std.specs.Prelude.{ℕ, Bool, List, IfOk};
+ghost use Rattle.std.specs.Prelude.{◌≡◌, ℕ, Bool, List, IfOk, OnErr};
 ghost use Rattle.pipe_base.specs.declared.name.NodeId.{NodeId};
 ghost use Rattle.pipe_base.specs.Graph.{Graph};
 ghost use Rattle.pipe_model.specs.declared.record.Record.{Record};
+ghost use Rattle.pipe_host.specs.Buffers.{last_of};
 ghost use Rattle.pipe_host.specs.Host.{Stands, Works};
-ghost use Rattle.pipe_host.specs.Steps.{told};
+ghost use Rattle.pipe_host.specs.Steps.{IsObeying, told};
 
 use crate::host::Host;
-use pipe_base::{Control, KeptStep, NoMemory, Step};
+use pipe_base::{AnnouncedList, Control, KeptStep, List, NoMemory, Noted, Step};
+use std::alloc::Global;
 
 impl Host {
-    /// Works out what a control message to the host does. Nothing changes. A freeze takes its link down, where that is an
-    /// in-link that is up, and what the barriers pass then is logged; any other message does nothing yet.
-    pub fn work_control(&self, control: &Control) -> Result<KeptStep, NoMemory>
-        ensures { IfOk result (λ step. (graph : Graph) (node : NodeId) (own : List Record) (place : ℕ) (keep : Bool) → Stands graph node.0 own self.now
-            → Works graph node.0 own (told node control.now place keep step) self.now) }
+    /// Works out what a control message to the host does. A freeze takes its link down, where that is an in-link that is up,
+    /// and what the barriers pass then is logged. Of a notice the failed hosts are noted past the number of those noted; nothing
+    /// else changes. Any other message does nothing yet.
+    pub fn work_control(&mut self, control: &Control) -> Result<KeptStep, NoMemory>
+        ensures ok { IfOk result (λ step. (graph : Graph) (node : NodeId) (own : List Record) (place : ℕ) (keep : Bool) → Stands graph node.0 own self.old
+            → Works graph node.0 own (told node control.now place keep step) self.new) }
+        ensures err { OnErr result (self.new ≡ self.old) }
+    {
+        let count = self.held.adopt(control)?;
+        match self.obey(control, count) {
+            Ok(step) => Ok(step),
+            Err(NoMemory) => {
+                self.held.unadopt(count);
+                Err(NoMemory)
+            }
+        }
+    }
+
+    /// The step of a control message by which so many hosts are noted already.
+    fn obey(&self, control: &Control, count: usize) -> Result<KeptStep, NoMemory>
+        ensures { IfOk result (IsObeying self.now control.now count) }
     {
         let mut step = Step::new(self.alloc);
         step.downed = self.links.told_marks(self.alloc, control)?;
+        step.noted = last_noted(self.alloc, self.held.noted(), count)?;
         let barriers = self.links.barriers_without(&step.downed)?;
         self.held.copy_passed(barriers, &mut step.logged)?;
         step.keep(self.alloc)
+    }
+}
+
+/// The last so many failed hosts that are noted.
+fn last_noted(alloc: Global, noted: &Noted, count: usize) -> Result<AnnouncedList, NoMemory>
+    ensures { IfOk result (λ list. list ≡ last_of count noted.now) }
+{
+    let known = noted.count().saturating_sub(count);
+    match noted.as_slice().get(known..) {
+        Some(news) => Ok(List::from_vec(news.to_vec(alloc)?)),
+        None => Ok(List::new(alloc)),
     }
 }

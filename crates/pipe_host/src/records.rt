@@ -2,7 +2,7 @@
 ghost use Rattle.std.specs.Prelude.{◌≡◌, ◌∷◌, ℕ, List, true};
 ghost use Rattle.pipe_base.specs.Graph.{Graph, is_host};
 ghost use Rattle.pipe_base.specs.Scattering.{SenderCall};
-ghost use Rattle.pipe_links.specs.Links.{Stands};
+ghost use Rattle.pipe_links.specs.Links.{AreBarriersAt, Stands};
 ghost use Rattle.pipe_model.specs.declared.record.Record.{Record as ARecord};
 ghost use Rattle.pipe_model.specs.Acting.{ComesIn};
 ghost use Rattle.pipe_model.specs.Got.{gets};
@@ -13,6 +13,7 @@ ghost use Rattle.pipe_host.specs.Host.{HasReceiver, buffers_with};
 ghost use Rattle.pipe_host.specs.Sending.{has_begun, with_ack};
 
 use crate::buffers::Buffers;
+use pipe_barrier::Barriers;
 use pipe_base::{HostId, PacketKind, Service, Ts};
 use pipe_links::Links;
 use pipe_model::{Event, Record, Took};
@@ -54,11 +55,24 @@ fn is_ack(kind: PacketKind) -> bool
     matches!(kind, PacketKind::Ack)
 }
 
-/// Holds the message no more that is held for the record.
+/// Holds no more what these barriers have passed, which are those after the record, and what is void by the hosts that the
+/// record noted.
+pub fn let_out(held: &mut Buffers, barriers: Barriers, made: &Record)
+    ensures { (graph : Graph) (node : ℕ) (own : List ARecord) → AreBarriersAt graph node (made.now ∷ own) barriers
+        → held.old ≡ buffers_with graph node own (made.now ∷ own) → held.new ≡ buffers_with graph node (made.now ∷ own) (made.now ∷ own) }
+{
+    held.drop_passed(barriers);
+    if !made.step.noted().is_empty() {
+        held.drop_void();
+    }
+}
+
+/// Notes the hosts no more that are noted for the record, and holds the message no more that is held for it.
 pub fn give_back(held: &mut Buffers, made: &Record)
     ensures { (graph : Graph) (node : ℕ) (own : List ARecord) → IsNodeStep graph node own made.now
         → held.old ≡ buffers_with graph node own (made.now ∷ own) → held.new ≡ buffers_with graph node own own }
 {
+    held.unadopt(made.step.noted().len());
     if let Took::Link { packet, .. } = &made.took {
         held.let_go(made.step.fate(), packet);
     }

@@ -8,13 +8,14 @@ ghost use Rattle.pipe_base.specs.ShortestRoute.{picked};
 ghost use Rattle.pipe_base.specs.Step.{quiet_step};
 ghost use Rattle.pipe_base.specs.Ways.{with_ways};
 ghost use Rattle.pipe_model.specs.declared.record.Record.{Record};
+ghost use Rattle.pipe_model.specs.OwnOutcome.{first_failed};
 ghost use Rattle.pipe_host.specs.Host.{Stands, Works};
 ghost use Rattle.pipe_host.specs.Sending.{IsRefused, IsStamped, begun_by, is_full, promise_with};
 ghost use Rattle.pipe_host.specs.Steps.{sent};
 
 use crate::host::Host;
 use pipe_base::{
-    DestList, HostId, KeptStep, NoMemory, Outcome, Service, Step, Ts, UNSETTLED_LIMIT,
+    Dest, DestList, HostId, KeptStep, NoMemory, Noted, Outcome, Service, Step, Ts, UNSETTLED_LIMIT,
 };
 use pipe_clock::{ClockEnd, scatter};
 use pipe_relsend::{Sender, Window};
@@ -27,8 +28,8 @@ pub(crate) struct Stamp {
 }
 
 impl Host {
-    /// Works out what a send does: a message to each receiver under one stamp, or a refusal where the window is full or the
-    /// clock is at its end. Nothing changes but that a reliable scattering is begun.
+    /// Works out what a send does: a message to each receiver under one stamp, or a refusal where a receiver is noted as
+    /// failed, the window is full or the clock is at its end. Nothing changes but that a reliable scattering is begun.
     pub fn work_send(
         &mut self,
         service: Service,
@@ -41,7 +42,7 @@ impl Host {
             → Works graph host.0 own (sent host service now dests.now step) self.new) }
         ensures err { OnErr result (self.new ≡ self.old) }
     {
-        match self.stamp(service, now) {
+        match self.stamp(service, now, dests) {
             Ok(stamp) => {
                 let step = self.messages(service, stamp, dests)?;
                 begin(&mut self.sender, service, stamp.ts, dests)?;
@@ -52,10 +53,13 @@ impl Host {
     }
 
     /// Stamps a send that reads `now`, or answers its first refusal.
-    fn stamp(&self, service: Service, now: Ts) -> Result<Stamp, Outcome>
-        ensures ok { IfOk result (IsStamped self.now service now) }
-        ensures err { IfErr result (IsRefused self.now service now) }
+    fn stamp(&self, service: Service, now: Ts, dests: &DestList) -> Result<Stamp, Outcome>
+        ensures ok { IfOk result (IsStamped self.now service now dests.now) }
+        ensures err { IfErr result (IsRefused self.now service now dests.now) }
     {
+        if let Some(host) = first_failed(self.held.noted(), dests.as_slice()) {
+            return Err(Outcome::DestFailed { host });
+        }
         if is_full(&self.sender, service) {
             return Err(Outcome::Window {
                 count: UNSETTLED_LIMIT as u16,
@@ -98,6 +102,18 @@ impl Host {
         )?;
         step.keep(self.alloc)
     }
+}
+
+/// The first of the receivers that is noted as failed.
+fn first_failed(noted: &Noted, dests: &[Dest]) -> Option<HostId>
+    ensures { result ≡ first_failed noted.now dests.now }
+{
+    'dests: for (host, _) in dests {
+        if noted.has(*host) {
+            return Some(*host);
+        }
+    }
+    None
 }
 
 /// Whether a send of the service finds the window full.

@@ -1,1 +1,2 @@
+pub mod VoidLaws
 pub mod Walks

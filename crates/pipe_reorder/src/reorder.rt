@@ -1,21 +1,27 @@
 // The held messages of one service.
 ghost use Rattle.std.specs.Prelude.{◌≡◌, ◌++◌, ◌∷◌, [], ℕ, List, length, false, IfOk, OnOk, OnErr};
+ghost use Rattle.pipe_base.specs.declared.control.Announced.{Announced as AAnnounced};
+ghost use Rattle.pipe_base.specs.Failed.{is_void, past_known, time_of, without_void};
+ghost use Rattle.pipe_base.specs.Fate.{fate_among, fate_of};
 ghost use Rattle.pipe_base.specs.Messages.{IsInOrder, has_key, from_barrier, below_barrier, logged_of, AreBelow};
-ghost use Rattle.pipe_reorder.specs.Buffer.{Buffer, empty_buffer, buffer_with, buffer_without, passed_by, left_by};
-ghost use Rattle.pipe_base.specs.Fate.{fate_of};
-ghost use Rattle.pipe_reorder.specs.Buffer.{message_key, with_placed, AppendsSome};
+ghost use Rattle.pipe_reorder.specs.Buffer.{Buffer, adopted, empty_buffer, buffer_with, buffer_without, passed_by, left_by};
+ghost use Rattle.pipe_reorder.specs.Buffer.{message_key, with_failed, with_no_void, with_placed, AppendsSome};
 
-use pipe_base::{Body, Entry, Fate, Key, LoggedList, Message, NoMemory, Service, Ts};
+use pipe_base::{
+    Announced, AnnouncedList, Body, Entry, Fate, HostId, Key, LoggedList, Message, NoMemory, Noted,
+    Service, Ts,
+};
 use std::alloc::Global;
 use std::collections::BTreeMap;
 use std::marker::Model;
 
-/// The messages of a service that a host holds in the total order, and the barrier that passed
-/// last.
+/// The messages of a service that a host holds in the total order, the barrier that passed last, and the failed hosts whose
+/// messages are void from their times on. Void messages are never logged.
 #[derive(Clone, Debug, Drop)]
 pub struct Reorder {
     service: Service,
     barrier: Ts,
+    failed: Noted,
     held: BTreeMap<Key, Body>,
 }
 
@@ -25,19 +31,20 @@ impl Model for Reorder {
 
     ghost Value = { Buffer };
 
-    ghost view = { λ r. buffer_of r.service r.barrier r.held.entries };
+    ghost view = { λ r. buffer_of r.service r.barrier r.failed r.held.entries };
 
     ghost invariant = { λ r. IsInOrder r.held.entries };
 }
 
 impl Reorder {
-    /// A buffer that holds nothing. Takes no memory.
+    /// A buffer that holds nothing, and knows of no failed host. Takes no memory.
     pub fn new(alloc: Global, service: Service) -> Reorder
         ensures { result ≡ empty_buffer service }
     {
         Reorder {
             service,
             barrier: Ts(0),
+            failed: Noted::new(alloc),
             held: BTreeMap::new(alloc),
         }
     }
@@ -55,6 +62,13 @@ impl Reorder {
         ensures { result.0 ≡ self.now.barrier }
     {
         self.barrier
+    }
+
+    /// The failed hosts whose messages are void.
+    pub fn failed(&self) -> &Noted
+        ensures { result.now ≡ self.now.failed }
+    {
+        &self.failed
     }
 
     /// Whether a message with this key is held.
@@ -83,15 +97,61 @@ impl Reorder {
         let _ = self.held.remove(&key);
     }
 
+    /// The host has failed: its messages from the time on are void, and held no more. The first time of a host stands.
+    pub fn fail(&mut self, host: HostId, time: Ts) -> Result<(), NoMemory>
+        ensures ok { OnOk result (self.new ≡ with_no_void (with_failed (record { host = host; time = time } ∷ []) self.old)) }
+        ensures err { OnErr result (self.new ≡ self.old) }
+    {
+        self.failed.push(Announced { host, time })?;
+        self.drop_void();
+        Ok(())
+    }
+
+    /// Takes over the failed hosts of an announcement past the number of those known, and answers how many. What is void by
+    /// them is held until `drop_void`.
+    pub fn adopt(&mut self, list: &AnnouncedList) -> Result<usize, NoMemory>
+        ensures ok { OnOk result (self.new ≡ adopted list.now self.old) }
+        ensures count { IfOk result (λ count. count ≡ length (past_known self.old.failed list.now)) }
+        ensures err { OnErr result (self.new ≡ self.old) }
+    {
+        self.failed.adopt(list)
+    }
+
+    /// Knows of the last so many failed hosts no more: the way back from an `adopt` that answered this count. Takes no memory.
+    pub fn unadopt(&mut self, count: usize)
+        ensures { (before : Buffer) (failed : List AAnnounced) → count ≡ length failed → self.old ≡ with_failed failed before → self.new ≡ before }
+    {
+        let kept = self.failed.count().saturating_sub(count);
+        self.failed.truncate(kept);
+    }
+
+    /// Holds the messages no more that are void. Takes no memory.
+    pub fn drop_void(&mut self)
+        ensures { self.new ≡ with_no_void self.old }
+    {
+        drop_void(&mut self.held, &self.failed);
+    }
+
     /// What becomes of a message of this service with this key that comes now.
     pub fn fate(&self, key: Key) -> Fate
-        ensures { result ≡ fate_of self.now.barrier self.now.messages key }
+        ensures { result ≡ fate_of self.now.barrier (time_of key.src.0 self.now.failed) self.now.messages key }
     {
         if key.ts.0 < self.barrier.0 {
-            Fate::Late {
+            return Fate::Late {
                 barrier: self.barrier,
-            }
-        } else if self.holds(key) {
+            };
+        }
+        match self.failed.time_of(key.src) {
+            Some(time) if time.0 <= key.ts.0 => Fate::Discarded { time },
+            _ => self.fate_among(key),
+        }
+    }
+
+    /// What becomes of a message with this key that is neither late nor void.
+    fn fate_among(&self, key: Key) -> Fate
+        ensures { result ≡ fate_among self.now.messages key }
+    {
+        if self.holds(key) {
             Fate::Repeat
         } else {
             Fate::Held
@@ -100,7 +160,7 @@ impl Reorder {
 
     /// Gives a message of this service its fate, and holds it where that is `Held`.
     pub fn place(&mut self, message: Message) -> Result<Fate, NoMemory>
-        ensures fate { IfOk result (λ fate. fate ≡ fate_of self.old.barrier self.old.messages (message_key message)) }
+        ensures fate { IfOk result (λ fate. fate ≡ fate_of self.old.barrier (time_of message.src.0 self.old.failed) self.old.messages (message_key message)) }
         ensures held { IfOk result (λ fate. self.new ≡ with_placed fate (message_key message) message.body self.old) }
         ensures err { OnErr result (self.new ≡ self.old) }
     {
@@ -115,14 +175,14 @@ impl Reorder {
         Ok(fate)
     }
 
-    /// Appends the held messages below the barrier, in the total order. After `NoMemory` some
-    /// first ones of them were appended.
+    /// Appends the held messages below the barrier that are not void, in the total order. After `NoMemory` some first ones of
+    /// them were appended.
     pub fn copy_passed(&self, barrier: Ts, out: &mut LoggedList) -> Result<(), NoMemory>
         ensures ok { OnOk result (out.new ≡ out.old ++ passed_by barrier.0 self.now) }
         ensures early { OnOk result (AreBelow barrier.0 out.old → AreBelow barrier.0 out.new) }
         ensures err { OnErr result (AppendsSome out.old (passed_by barrier.0 self.now) out.new) }
     {
-        copy_below(&self.held, self.service, barrier, out)
+        copy_below(&self.held, &self.failed, self.service, barrier, out)
     }
 
     /// Holds the messages below the barrier no more. Takes no memory.
@@ -139,8 +199,8 @@ impl Reorder {
         Ok(self.clone()?)
     }
 
-    /// Moves the messages below the barrier to the end of the log. After `NoMemory` all are still
-    /// held, and copies of some first ones were appended.
+    /// Moves the messages below the barrier to the end of the log, but those that are void: these go. After `NoMemory` all are
+    /// still held, and copies of some first ones were appended.
     pub fn pass(&mut self, barrier: Ts, out: &mut LoggedList) -> Result<(), NoMemory>
         ensures logged { OnOk result (out.new ≡ out.old ++ passed_by barrier.0 self.old) }
         ensures left { OnOk result (self.new ≡ left_by barrier.0 self.old) }
@@ -155,23 +215,37 @@ impl Reorder {
 
 fn copy_below(
     held: &BTreeMap<Key, Body>,
+    failed: &Noted,
     service: Service,
     barrier: Ts,
     out: &mut LoggedList,
 ) -> Result<(), NoMemory>
-    ensures ok { let passed = logged_of service (below_barrier barrier.0 held.now.entries) in
+    ensures ok { let passed = logged_of service (without_void failed.now (below_barrier barrier.0 held.now.entries)) in
         OnOk result (out.new ≡ out.old ++ passed) }
-    ensures err { let passed = logged_of service (below_barrier barrier.0 held.now.entries) in
+    ensures err { let passed = logged_of service (without_void failed.now (below_barrier barrier.0 held.now.entries)) in
         OnErr result (AppendsSome out.old passed out.new) }
 {
     'entries: for (key, body) in held {
         if key.ts.0 >= barrier.0 {
             break;
         }
+        if is_void(failed, *key) {
+            continue;
+        }
         let body = body.try_clone()?;
         add(out, (service, Entry { key: *key, body }))?;
     }
     Ok(())
+}
+
+// Whether the message with this key is void.
+fn is_void(failed: &Noted, key: Key) -> bool
+    ensures { result ≡ is_void failed.now key }
+{
+    match failed.time_of(key.src) {
+        Some(time) => time.0 <= key.ts.0,
+        None => false,
+    }
 }
 
 // Appends an entry. Most logs of a step have one, so the first takes no room for more.
@@ -195,4 +269,10 @@ fn drop_below(held: &mut BTreeMap<Key, Body>, barrier: Ts)
         }
         let _ = held.pop_first();
     }
+}
+
+fn drop_void(held: &mut BTreeMap<Key, Body>, failed: &Noted)
+    ensures { held.new.entries ≡ without_void failed.now held.old.entries }
+{
+    held.retain(|key, _| !is_void(failed, *key));
 }

@@ -16,10 +16,11 @@ returns-in-Some-Held c =
     = subst (λ (fate : Option Fate). IsNew fate (Some c.args.packet.now) messages) fate_is fresh in
     let held_is : c.args.held.now.messages ≡ with_message (key_of c.args.packet.now) c.args.packet.now.body messages
     = subst (λ (fate : Option Fate). c.args.held.now.messages ≡ with_held fate (Some c.args.packet.now) messages) fate_is is in
-    c.unhold.ensures.undoes (record { service = c.args.held.now.service; barrier = c.args.held.now.barrier; messages = messages }) c.args.packet.now.body
+    c.unhold.ensures.undoes (record { service = c.args.held.now.service; barrier = c.args.held.now.barrier; failed = c.args.held.now.failed; messages = messages }) c.args.packet.now.body
     (ap (λ (key : Key). has_key key messages) c.key_of.ensures ∙ fresh_key)
     (λ i. record {
       service = c.args.held.now.service;
       barrier = c.args.held.now.barrier;
+      failed = c.args.held.now.failed;
       messages = (held_is ∙ ap (λ (key : Key). with_message key c.args.packet.now.body messages) (sym c.key_of.ensures)) i;
     })

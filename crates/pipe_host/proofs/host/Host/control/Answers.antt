@@ -11,11 +11,11 @@ use Rattle.pipe_host.proofs.host.Host.control.Goals as goal
 pub returns-clause-ok : goal.returns-clause-ok
 returns-clause-ok c = λ graph node own place keep stands.
     let told : NodeId → Record = λ (n : NodeId). steps.told n c.args.control 0 false c.in_ok-worked.worked in
-    let works = c.in_ok-worked.ensures graph node own 0 false stands in
-    let rules = (c.in_ok-worked.ensures graph node own place keep stands).rules in
-    let me_is : c.node.result ≡ node = c.node.ensures ∙ (λ i. record { 0 = stands.links_are.node_is i }) in
+    let works = c.in_ok-worked.ensures.ok graph node own 0 false stands in
+    let rules = (c.in_ok-worked.ensures.ok graph node own place keep stands).rules in
+    let me_is : c.node.result ≡ node = c.node.ensures ∙ (λ i. record { 0 = works.stands.holds.links_are.node_is i }) in
     let after = subst (λ (n : NodeId). Stands graph node.0 (told n ∷ own) c.follow.new.self) me_is
-    (c.follow.ensures graph node.0 own (subst (λ (n : NodeId). StandsWith graph node.0 own (told n) c.args.self.now) (sym me_is) works.stands) tt
+    (c.follow.ensures graph node.0 own (subst (λ (n : NodeId). StandsWith graph node.0 own (told n) c.work_control.new.self) (sym me_is) works.stands) tt
     (subst (λ (n : NodeId). IsNodeStep graph node.0 own (told n)) (sym me_is) works.rules)) in
     let links = after.links_are in
     subst (λ (s : Step). Does graph node.0 own (steps.told node c.args.control place keep s) c.follow.new.self) (sym c.into_step.ensures)

@@ -4,9 +4,7 @@ use Rattle.pipe_base.specs.Messages.{AreBelow}
 use Rattle.pipe_model.specs.declared.record.Record.{Record}
 use Rattle.pipe_model.specs.Clock.{tick_reading}
 use Rattle.pipe_model.specs.Sender.{sender_calls, with_begun}
-use Rattle.pipe_host.specs.Buffers.{all_left}
 use Rattle.pipe_host.proofs.Bounds.{logged_below_end, stamp_within}
-use Rattle.pipe_host.proofs.RecordLaws.{leaves}
 use Rattle.pipe_host.proofs.host.Host.follow.Goals as goal
 
 pub returns : goal.returns
@@ -26,6 +24,6 @@ returns c = λ graph node own stands comes step.
       links_are = after;
       next_is = c.follow-2.ensures below (stamp_within graph node own r.event r.step.stamped step.stamped_is)
           ∙ ap (λ (n : ℕ). next_after n (tick_reading r.event) r.step.stamped r.step.logged) holds.next_is;
-      held_are = c.drop_passed.ensures ∙ ap (all_left b) holds.held_are ∙ leaves graph node own r b bars;
+      held_are = c.let_out.ensures graph node own bars holds.held_are;
       sender_is = c.acknowledge.ensures graph node own (with_begun r.event r.step.stamped (sender_calls graph node own)) holds.links_are holds.host comes holds.sender_is;
     }

@@ -1,4 +1,4 @@
-use Rattle.std.proofs.Common.{◌≡◌, ℕ, ◌≤◌, [], List, map, Option, None, Some, ap, sym, subst, ◌∙◌, arith}
+use Rattle.std.proofs.Common.{◌≡◌, ℕ, ◌≤◌, [], List, map, Option, None, Some, refl, ap, sym, subst, ◌∙◌, arith}
 use Rattle.pipe_base.specs.declared.name.HostId.{HostId}
 use Rattle.pipe_base.specs.declared.name.Ts.{Ts}
 use Rattle.pipe_base.specs.declared.packet.Packet.{Packet}
@@ -15,6 +15,8 @@ use Rattle.pipe_model.specs.declared.event.Event.TheVariants.{Send}
 use Rattle.pipe_model.specs.Clock.{next}
 use Rattle.pipe_model.specs.Sender.{sender_calls, with_begun}
 use Rattle.pipe_relsend.specs.Sending as sending
+use Rattle.pipe_host.specs.Steps.{sent}
+use Rattle.pipe_host.proofs.RecordLaws.{still_buffers}
 use Rattle.pipe_host.proofs.SendSteps.{begins, begins_none, refuses, sends, stamp_above_begun}
 use Rattle.pipe_host.proofs.host.Host.work_send.Goals as goal
 
@@ -48,7 +50,7 @@ returns-in_ok-begin-in-Ok-clause-ok c = λ graph host own stands.
           host = stands.host;
           links_are = stands.links_are;
           next_is = stands.next_is;
-          held_are = stands.held_are;
+          held_are = stands.held_are ∙ sym (still_buffers graph host.0 own (sent host service c.args.now dests step) refl (ap (λ (s : Step). s.noted) step_is));
           sender_is = subst (λ (o : Option Ts). sending.Stands (with_begun event o calls) c.begin.new.sender) (sym stamped_is) begun;
         };
         receiver = c.requires.some;
@@ -73,7 +75,7 @@ returns-in-Err-clause-ok c = λ graph host own stands.
           host = stands.host;
           links_are = stands.links_are;
           next_is = stands.next_is;
-          held_are = stands.held_are;
+          held_are = stands.held_are ∙ sym (still_buffers graph host.0 own (sent host service c.args.now dests step) refl (ap (λ (s : Step). s.noted) c.quiet.ensures));
           sender_is = subst (λ (cs : List SenderCall). sending.Stands cs k.sender) none stands.sender_is;
         };
         receiver = c.requires.some;

@@ -1,4 +1,4 @@
-use Rattle.std.proofs.Common.{◌≡◌, ◌∷◌, true, false, Option, Some, ap, sym, subst, ◌∙◌}
+use Rattle.std.proofs.Common.{◌≡◌, [], ◌∷◌, true, false, Option, Some, refl, ap, sym, subst, ◌∙◌}
 use Rattle.pipe_base.specs.declared.packet.Packet.{Packet}
 use Rattle.pipe_base.specs.declared.step.Fate.{Fate}
 use Rattle.pipe_base.specs.declared.step.Outcome.TheVariants.{Ignored}
@@ -35,7 +35,7 @@ returns-then-not-is_up-clause-ok c = λ graph node own place keep stands comes.
           host = stands.host;
           links_are = stands.links_are;
           next_is = stands.next_is;
-          held_are = stands.held_are ∙ sym (still_buffers graph node own r (taken_ignored (moments_of own) link p place keep down));
+          held_are = stands.held_are ∙ sym (still_buffers graph node own r (taken_ignored (moments_of own) link p place keep down) refl);
           sender_is = stands.sender_is;
         };
         receiver = tt;
@@ -58,8 +58,9 @@ returns-in-Ok-clause-ok c = λ graph node own place keep stands comes.
     let got : received own r ≡ Some (link.0, p) = taken_received (moments_of own) link p place keep up in
     let fate_is : fate ≡ fate_among before brought =
     c.fate-fate.ensures.value graph node own link stands ∙ ap (λ (h : Buffers). fate_among h brought) stands.held_are in
+    let no_news : step.noted ≡ [] = ap (λ (s : Step). s.noted) (c.in-Ok.ensures.step_is graph node own stands.links_are) in
     let held_now : c.hold.new.self ≡ buffers_with graph node own (r ∷ own) =
-    c.in_ok-hold.ensures.ok ∙ ap (all_joined fate p) stands.held_are ∙ ap (λ (f : Option Fate). all_joined f p before) fate_is ∙ held_with graph node own r link.0 p got in
+    c.in_ok-hold.ensures.ok ∙ ap (all_joined fate p) stands.held_are ∙ ap (λ (f : Option Fate). all_joined f p before) fate_is ∙ held_with graph node own r link.0 p got no_news in
     let ready : StandsWith graph node own r k =
     record {
       holds = record {

@@ -1,4 +1,4 @@
-use Rattle.std.proofs.Common.{◌≡◌, ℕ, ◌<◌, ◌-◌, ◌^◌, List, ◌++◌, None, ap, sym, subst, ◌∙◌, arith, [], max}
+use Rattle.std.proofs.Common.{◌≡◌, ℕ, ◌<◌, ◌-◌, ◌^◌, List, ◌++◌, None, refl, ap, sym, subst, ◌∙◌, arith, [], max}
 use Rattle.std.proofs.lemmas.List.Elements.{All-nil}
 use Rattle.std.proofs.lemmas.Result.{IfOk-weaker}
 use Rattle.pipe_base.specs.declared.message.Entry.{Entry}
@@ -30,6 +30,7 @@ use Rattle.pipe_host.specs.Buffers.{logged_by}
 use Rattle.pipe_host.specs.Host.{Stands, Works}
 use Rattle.pipe_host.specs.Steps.{ticked}
 use Rattle.pipe_host.proofs.HostSteps.{ticks}
+use Rattle.pipe_host.proofs.RecordLaws.{still_buffers}
 use Rattle.pipe_host.proofs.host.Host.work_tick.Goals as goal
 
 pub returns : goal.returns
@@ -78,7 +79,7 @@ returns c =
           host = stands.host;
           links_are = stands.links_are;
           next_is = stands.next_is;
-          held_are = stands.held_are;
+          held_are = stands.held_are ∙ sym (still_buffers graph node.0 own (ticked node c.args.now kept) refl (ap (λ (s : Step). s.noted) step_is));
           sender_is = stands.sender_is;
         };
         receiver = tt;
