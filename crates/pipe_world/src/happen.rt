@@ -127,8 +127,7 @@ fn is_crash(event: &Event) -> bool
     matches!(event, Event::Crash { .. })
 }
 
-/// Works out the step of the node that acts. Of the node only the message that it holds for the step, or the scattering that
-/// it begins, is changed.
+/// Works out the step of the node that acts. Of the node only what the step makes it hold, note or begin is changed.
 fn work_at(node: &mut Node, event: &Event, took: &Took) -> Result<KeptStep, NoMemory>
     requires acts { (graph : Graph) × (id : NodeId) × IsAt graph id event.now took.now node.old }
     requires undecided { IsUndecided event.now }

@@ -76,10 +76,11 @@ impl Node {
         }
     }
 
-    /// Works out what a control message to the node does.
-    pub fn work_control(&self, control: &Control) -> Result<KeptStep, NoMemory>
-        ensures { IfOk result (λ step. (graph : Graph) (node : NodeId) (own : List ARecord) (place : ℕ) (keep : Bool) → Stands graph node.0 own self.now
-            → Works graph node.0 own (told node control.now place keep step) self.now) }
+    /// Works out what a control message to the node does. Of the node only the failed hosts that it notes are changed.
+    pub fn work_control(&mut self, control: &Control) -> Result<KeptStep, NoMemory>
+        ensures ok { IfOk result (λ step. (graph : Graph) (node : NodeId) (own : List ARecord) (place : ℕ) (keep : Bool) → Stands graph node.0 own self.old
+            → Works graph node.0 own (told node control.now place keep step) self.new) }
+        ensures err { OnErr result (self.new ≡ self.old) }
     {
         match self {
             Node::Host(host) => host.work_control(control),
