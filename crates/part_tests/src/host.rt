@@ -2,8 +2,8 @@
 
 use crate::network::{ONE_HOST, build};
 use pipe_base::{
-    Body, Fate, HostId, LAST_BARRIER, LAST_STAMP, LinkId, List, NoMemory, NodeId, Outcome, Packet,
-    PacketKind, Service, Step, Ts,
+    Announced, Body, Control, Fate, HostId, LAST_BARRIER, LAST_STAMP, LinkId, List, NoMemory,
+    NodeId, Outcome, Packet, PacketKind, Service, Step, Ts,
 };
 use pipe_host::Host;
 use pipe_topo::TopoFault;
@@ -23,12 +23,14 @@ fn packet(alloc: Global, kind: PacketKind, src: u16, ts: u64, barrier: u64) -> P
     }
 }
 
-/// A packet on link 1, with its sender, timestamp and barriers; a reading of the clock; a send to itself at a reading.
+/// A packet on link 1, with its sender, timestamp and barriers; a reading of the clock; a send to itself at a reading; a notice
+/// of one failed host with its time.
 #[derive(Clone, Copy)]
 enum Call {
     Take(PacketKind, u16, u64, u64),
     Tick(u64),
     Send(Service, u64),
+    Notice(u16, u64),
 }
 
 /// How many messages a step logged, packets it put and links went down.
@@ -162,6 +164,58 @@ static SETTLES: [Row; 7] = [
     },
 ];
 
+// Of a host that is noted as failed, reliable messages from its time on are void; best effort is not touched.
+static DISCARDS: [Row; 6] = [
+    Row {
+        call: Call::Take(PacketKind::Prepare, 7, 6, 0),
+        outcome: Outcome::Ok,
+        fate: Some(Fate::Held),
+        counts: (0, 0, 0),
+        commit: None,
+        promise: 0,
+    },
+    Row {
+        call: Call::Notice(7, 5),
+        outcome: Outcome::Ok,
+        fate: None,
+        counts: (0, 0, 0),
+        commit: None,
+        promise: 0,
+    },
+    Row {
+        call: Call::Take(PacketKind::Prepare, 7, 5, 0),
+        outcome: Outcome::Ok,
+        fate: Some(Fate::Discarded { time: Ts(5) }),
+        counts: (0, 0, 0),
+        commit: None,
+        promise: 0,
+    },
+    Row {
+        call: Call::Take(PacketKind::Plain, 7, 5, 0),
+        outcome: Outcome::Ok,
+        fate: Some(Fate::Held),
+        counts: (0, 0, 0),
+        commit: None,
+        promise: 0,
+    },
+    Row {
+        call: Call::Take(PacketKind::Prepare, 7, 4, 0),
+        outcome: Outcome::Ok,
+        fate: Some(Fate::Held),
+        counts: (0, 0, 0),
+        commit: None,
+        promise: 0,
+    },
+    Row {
+        call: Call::Take(PacketKind::Beacon, 0, 0, 10),
+        outcome: Outcome::Ok,
+        fate: None,
+        counts: (2, 0, 0),
+        commit: None,
+        promise: 6,
+    },
+];
+
 fn send(
     rt: &impl Abort,
     alloc: Global,
@@ -174,6 +228,21 @@ fn send(
     dests.push((HostId(0), Body::empty(alloc)))?;
     assert!(rt; dests.len() == 1);
     host.send(service, Ts(now), dests, step)
+}
+
+fn note(
+    alloc: Global,
+    host: &mut Host,
+    failed: u16,
+    time: u64,
+    step: &mut Step,
+) -> Result<(), NoMemory> {
+    let mut list = List::new(alloc);
+    list.push(Announced {
+        host: HostId(failed),
+        time: Ts(time),
+    })?;
+    host.control(Control::Notice { list }, step)
 }
 
 fn make(
@@ -189,6 +258,7 @@ fn make(
         }
         Call::Tick(now) => host.tick(Ts(now), step),
         Call::Send(service, now) => send(rt, alloc, host, service, now, step),
+        Call::Notice(failed, time) => note(alloc, host, failed, time, step),
     }
 }
 
@@ -245,5 +315,6 @@ fn play(rt: &impl Abort, alloc: Global, rows: &[Row], next: u64) -> Result<(), T
 #[test]
 fn steps_as_worked_out_by_hand(rt: HostRuntime) -> Result<(), TopoFault> {
     play(&rt, rt.alloc(), &TO_THE_END, LAST_BARRIER)?;
-    play(&rt, rt.alloc(), &SETTLES, 21)
+    play(&rt, rt.alloc(), &SETTLES, 21)?;
+    play(&rt, rt.alloc(), &DISCARDS, 6)
 }

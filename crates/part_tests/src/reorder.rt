@@ -94,9 +94,21 @@ fn hold_and_undo(rt: &impl Abort, alloc: Global, held: &mut Reorder) -> Result<(
     Ok(())
 }
 
+// Of a failed host the first time stands: what it holds from then on is void, and what comes is discarded.
+fn fail_twice(rt: &impl Abort, alloc: Global, held: &mut Reorder) -> Result<(), NoMemory> {
+    assert!(rt; held.place(message(alloc, 203, 4))? == Fate::Held);
+    assert!(rt; held.place(message(alloc, 205, 4))? == Fate::Held);
+    held.fail(HostId(4), Ts(204))?;
+    held.fail(HostId(4), Ts(202))?;
+    assert!(rt; held.len() == 1 && held.failed().count() == 2);
+    assert!(rt; held.place(message(alloc, 204, 4))? == Fate::Discarded { time: Ts(204) });
+    Ok(())
+}
+
 #[test]
 fn logs_in_the_total_order(rt: HostRuntime) -> Result<(), NoMemory> {
     let mut held = Reorder::new(rt.alloc(), Service::BestEffort);
     hold_and_undo(&rt, rt.alloc(), &mut held)?;
-    play(&rt, rt.alloc(), &mut held)
+    play(&rt, rt.alloc(), &mut held)?;
+    fail_twice(&rt, rt.alloc(), &mut held)
 }

@@ -1,6 +1,7 @@
 -- That the steps of a half are what it owes.
 use Rattle.std.proofs.Common.{◌≡◌, ℕ, ◌&&◌, if◌then◌else◌, Bool, true, false, List, [], ◌∷◌, ◌++◌, map, filter, Option, None, Some, refl, sym, subst, ap, ◌∙◌, append-nil, zero-add}
 use Rattle.pipe_base.specs.declared.control.Addressed.{Addressed}
+use Rattle.pipe_base.specs.declared.control.Announced.{Announced}
 use Rattle.pipe_base.specs.declared.control.Control.{Control}
 use Rattle.pipe_base.specs.declared.name.LinkId.{LinkId}
 use Rattle.pipe_base.specs.declared.name.NodeId.{NodeId}
@@ -24,8 +25,8 @@ use Rattle.pipe_links.proofs.Tells.{tells_marks}
 use Rattle.pipe_model.specs.declared.record.Record.{Record}
 use Rattle.pipe_model.specs.Duties.{beacons, fields, owed_by_half, owed_by_host, owed_by_take, owed_by_tick}
 use Rattle.pipe_model.specs.Got.{gets}
-use Rattle.pipe_model.specs.Marks.{told_marks}
-use Rattle.pipe_model.specs.Moments.{barrier_at, known_drops, moments_of, quiet_calls, received}
+use Rattle.pipe_model.specs.Marks.{newly_noted, noted_by, told_marks}
+use Rattle.pipe_model.specs.Moments.{barrier_at, known_drops, moments_of, noted_hosts, quiet_calls, received}
 use Rattle.pipe_model.specs.Run.{IsNodeHistory, IsNodeStep}
 use Rattle.pipe_model.specs.Sender.{sender_calls}
 use Rattle.pipe_model.proofs.Steps.{no_drop, no_fate, no_host, no_log, taken_ignored, taken_received}
@@ -66,6 +67,10 @@ owed_at_half : (graph : Graph) (node : ℕ) (own : List Record) (r : Record) (f 
 owed_at_half graph node own r f half =
     chosen {A = List Packet} (is_host graph node) (owed_by_host node f r.step.fate (gets graph node own r)) (owed_by_half f (received own r)) (no_host graph node half)
 
+-- a half notes no failed host
+notes_none : (graph : Graph) (node : ℕ) (own : List Record) (r : Record) → is_half graph node ≡ true → [] ≡ newly_noted graph node own r
+notes_none graph node own r half = sym (chosen {A = List Announced} (is_host graph node) (noted_by (noted_hosts own) r.event r.took) [] (no_host graph node half))
+
 -- a packet on a link that is not up
 pub ignores : (graph : Graph) (node : ℕ) (own : List Record) (link : LinkId) (p : Packet) (place : ℕ) (keep : Bool) → is_half graph node ≡ true
     → is_up (moments_of own) link.0 ≡ false → IsNodeStep graph node own (taken link p place keep (quiet_step Ignored))
@@ -78,7 +83,7 @@ ignores graph node own link p place keep half down =
       outcome_is = ignored_where_down (is_up (moments_of own) link.0) down;
       downed_is = refl;
       dropped_is = refl;
-      noted_is = refl;
+      noted_is = notes_none graph node own r half;
       stamped_is = refl;
       fate_is = no_fate graph node own r (no_host graph node half);
       logged_is = no_log graph node own r (no_host graph node half);
@@ -108,7 +113,7 @@ passes graph node own link p place keep b step half drops up are step_is =
       outcome_is = ok_where_up (is_up (moments_of own) link.0) up;
       downed_is = refl;
       dropped_is = refl;
-      noted_is = refl;
+      noted_is = notes_none graph node own r half;
       stamped_is = refl;
       fate_is = no_fate graph node own r (no_host graph node half);
       logged_is = no_log graph node own r (no_host graph node half);
@@ -143,7 +148,7 @@ ticks graph node own now marks tells b step half drops history marks_are tells_a
       outcome_is = refl;
       downed_is = marks_are;
       dropped_is = refl;
-      noted_is = refl;
+      noted_is = notes_none graph node.0 own r half;
       stamped_is = refl;
       fate_is = no_fate graph node.0 own r (no_host graph node.0 half);
       logged_is = no_log graph node.0 own r (no_host graph node.0 half);
@@ -167,7 +172,7 @@ obeys graph node own control place keep step half step_is =
       outcome_is = refl;
       downed_is = refl;
       dropped_is = refl;
-      noted_is = refl;
+      noted_is = notes_none graph node.0 own r half;
       stamped_is = refl;
       fate_is = no_fate graph node.0 own r (no_host graph node.0 half);
       logged_is = no_log graph node.0 own r (no_host graph node.0 half);
