@@ -1,6 +1,6 @@
 -- Laws of messages without those that are void.
-use Rattle.std.proofs.Common.{◌≡◌, ℕ, ◌≤◌, ◌||◌, ◌==◌, not, Bool, true, false, cond, nat_le, List, [], ◌∷◌, ◌++◌, filter, All, Option, None, Some, refl, sym, subst, ap, ap₂, ◌∙◌, arith, eqb-true}
-use Rattle.std.proofs.lemmas.Bool.{and_parts, not_from_true, not_from_false}
+use Rattle.std.proofs.Common.{◌≡◌, ℕ, ◌||◌, ◌==◌, not, Bool, true, false, cond, List, [], ◌∷◌, ◌++◌, filter, All, Option, None, Some, refl, sym, subst, ap, ap₂, ◌∙◌, arith, eqb-true}
+use Rattle.std.proofs.lemmas.Bool.{and_parts, not_from_false}
 use Rattle.std.proofs.lemmas.List.Elements.{All-head, All-filter, All-weaker}
 use Rattle.std.specs.Ordering.{match_ordering}
 use Rattle.std.specs.declared.cmp.Ordering.{Ordering}
@@ -11,7 +11,6 @@ use Rattle.pipe_base.specs.declared.name.Ts.{Ts}
 use Rattle.pipe_base.specs.Failed.{is_from, is_void, time_of, without_void}
 use Rattle.pipe_base.specs.Messages.{Messages, Before, IsInOrder, has_key, key_cmp, same_key, with_message}
 use Rattle.pipe_base.proofs.KeyOrder.{before_trans, equal_same, greater_after, less_before, same_numbers}
-use Rattle.pipe_base.proofs.MessageLaws.{filter_all}
 
 -- ---- two tests
 
@@ -125,9 +124,6 @@ standing_by failed more k covers false is stands = refl
 pub without_more : (failed more : List Announced) (ms : Messages) → Covers failed more → without_void more (without_void failed ms) ≡ without_void more ms
 without_more failed more ms covers =
     filter_strict (λ m. not (is_void more m.0)) (λ m. not (is_void failed m.0)) ms (λ m stands. standing_by failed more m.0 covers (is_void failed m.0) refl stands)
-
-pub none_void : (ms : Messages) → without_void [] ms ≡ ms
-none_void ms = filter_all (λ (m : Key × List ℕ). not (is_void [] m.0)) ms (λ k d lt. refl)
 
 -- a message that is not void is held or not whatever is void
 pub has_standing : (failed : List Announced) (k : Key) (ms : Messages) → is_void failed k ≡ false → has_key k (without_void failed ms) ≡ has_key k ms

@@ -1,4 +1,4 @@
-use Rattle.std.proofs.Common.{◌≡◌, length, Option, subst, ap, sym, ◌∙◌}
+use Rattle.std.proofs.Common.{◌≡◌, length, Option, subst, ap, ◌∙◌}
 use Rattle.pipe_base.specs.declared.packet.Packet.{Packet}
 use Rattle.pipe_base.specs.declared.step.Fate.{Fate}
 use Rattle.pipe_model.specs.declared.record.Record.{Record}
