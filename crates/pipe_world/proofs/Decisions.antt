@@ -1,6 +1,7 @@
 -- A decision puts few messages, and its record is what the rules say.
-use Rattle.std.proofs.Common.{◌≡◌, ℕ, ◌+◌, ◌≤◌, Bool, not, List, ◌∷◌, [], ◌++◌, length, map, filter, reverse, refl, subst, sym, ap, ◌∙◌, arith, length-append, length-map}
+use Rattle.std.proofs.Common.{◌+◌, ◌≤◌, Bool, not, List, ◌∷◌, length, filter, reverse, refl, subst, sym, ap, ◌∙◌, arith, length-append}
 use Rattle.std.proofs.lemmas.Bool.{false≢true}
+use Rattle.std.proofs.lemmas.List.{length-map}
 use Rattle.std.proofs.lemmas.List.Filters.{length-filter_both}
 use Rattle.std.proofs.lemmas.List.FromFn.{length-map-range_with_len}
 use Rattle.pipe_base.specs.declared.name.HostId.{HostId}
@@ -15,7 +16,7 @@ use Rattle.pipe_net.specs.Waits.{Waits}
 use Rattle.pipe_world.specs.declared.node.NodeState.{NodeState}
 use Rattle.pipe_world.specs.Decision.{Decides, decided}
 use Rattle.pipe_world.specs.World.{Keeps, Runs, RunsFor}
-use Rattle.pipe_world.proofs.WorldSteps.{appended, kept_nodes}
+use Rattle.pipe_world.proofs.WorldSteps.{history_push, kept_nodes}
 
 filter_few : {X : Type 0} (p : X → Bool) (xs : List X) → length (filter p xs) ≤ length xs
 filter_few p xs = omega (arith, length-filter_both p (λ x. not (p x)) (λ x. refl) xs)
@@ -25,8 +26,8 @@ messages_few graph v =
     omega (
       arith,
       length-append (freezes graph v) (notices graph v),
-      length-map (freeze graph) (filter (is_frozen graph v) (all_links graph)),
-      length-map (notice v) (filter (λ (h : HostId). is_behind v h.0) (all_hosts graph)),
+      length-map (filter (is_frozen graph v) (all_links graph)) (freeze graph),
+      length-map (filter (λ (h : HostId). is_behind v h.0) (all_hosts graph)) (notice v),
       filter_few (is_frozen graph v) (all_links graph),
       filter_few (λ (h : HostId). is_behind v h.0) (all_hosts graph),
       length-map-range_with_len link_id 0 (length graph.links),

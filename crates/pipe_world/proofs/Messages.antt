@@ -52,7 +52,7 @@ owed_known graph node own _ = All-nil (GoesToKnown graph)
 numbers_below : (n : ℕ) → All (λ k. k < n) (range_with_len 0 n)
 numbers_below n = λ k d lt.
     let below : k < n = omega (arith, lt, length-range_with_len 0 n) in
-    subst (λ (m : ℕ). m < n) (sym (get_or-range_with_len 0 n k d below)) below
+    omega (arith, get_or-range_with_len 0 n k d below, below)
 
 -- the messages of a decision go to heads of links and to hosts
 frozen_known : (graph : Graph) → IsGraph graph → (v : View) → All (GoesToKnown graph) (freezes graph v)

@@ -61,7 +61,7 @@ impl World {
     pub fn new(alloc: Global, topology: Topology) -> Result<World, NoMemory>
         ensures { IfOk result (λ world. world ≡ record { graph = topology; trace = [] }) }
     {
-        let nodes = fresh_nodes(alloc, &topology)?;
+        let nodes = fresh_nodes(alloc, &topology, topology.nodes())?;
         let queues = Queues::new(alloc, topology.links())?;
         let controller = Controller::new(alloc, &topology)?;
         Ok(World {
@@ -205,14 +205,13 @@ fn half_in(nodes: &[NodeState], node: NodeId) -> &Half
 }
 
 /// A node with its in-links for each number, to which nothing has happened.
-fn fresh_nodes(alloc: Global, topology: &Topology) -> Result<Vec<NodeState>, NoMemory>
-    ensures graph { OnOk result (IsGraph topology.now) }
-    ensures few { OnOk result (topology.now.nodes ≤ 192) }
+fn fresh_nodes(alloc: Global, topology: &Topology, count: u16) -> Result<Vec<NodeState>, NoMemory>
+    requires { count ≡ topology.now.nodes }
     ensures count { IfOk result (λ nodes. length nodes.items ≡ topology.now.nodes) }
     ensures stand { IfOk result (λ nodes. (n : ℕ) (d : NodeState) → n < topology.now.nodes → node.StandsIn topology.now n [] (slice_index_or nodes.items n d)) }
 {
     let mut nodes = Vec::new(alloc);
-    'nodes: for id in 0..topology.nodes() {
+    'nodes: for id in 0..count {
         let node = fresh_node(alloc, topology, id)?;
         nodes.push(NodeState {
             node,

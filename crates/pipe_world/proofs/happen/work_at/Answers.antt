@@ -10,9 +10,9 @@ use Rattle.pipe_base.specs.declared.packet.Packet.{Packet}
 use Rattle.pipe_base.specs.declared.step.Step.{Step}
 use Rattle.pipe_base.specs.Graph.{Graph, ins_of}
 use Rattle.pipe_base.specs.Moment.{has_link}
-use Rattle.pipe_host.specs.Steps.{sent, taken, told}
+use Rattle.pipe_host.specs.Steps.{sent, taken, told, ticked}
 use Rattle.pipe_model.specs.declared.event.Event.{Event}
-use Rattle.pipe_model.specs.declared.event.Event.TheVariants.{ControlTake, Send, Take}
+use Rattle.pipe_model.specs.declared.event.Event.TheVariants.{ControlTake, Send, Take, Crash, Tick}
 use Rattle.pipe_model.specs.declared.record.Record.{Record}
 use Rattle.pipe_model.specs.declared.record.Took.{Took}
 use Rattle.pipe_model.specs.declared.record.Took.TheVariants.{Nothing, Link, Message}
@@ -78,17 +78,46 @@ returns-in-Link-clause-work c =
 
 pub returns-in-Message-clause-work : goal.returns-in-Message-clause-work
 returns-in-Message-clause-work c =
-    let k = c.args.node.now in
+    let k = c.work_control.new.self in
     let event : Event = c.args.event.now in
     let took : Took = c.args.took.now in
     let control = c.in-Message.addressed.control in
     IfOk-weaker c.work_control.result
-    (λ (step : Step). (graph : Graph) (node : NodeId) (own : List Record) (place : ℕ) (keep : Bool) → Stands graph node.0 own k
+    (λ (step : Step). (graph : Graph) (node : NodeId) (own : List Record) (place : ℕ) (keep : Bool) → Stands graph node.0 own c.args.node.now
     → Works graph node.0 own (told node control place keep step) k)
-    (WorksOut event took k k)
+    (WorksOut event took c.args.node.now k)
     (λ step works graph id own names acts stands.
     let at = subst (λ (x : Event). ActsAt graph id x took) c.in-ControlTake.is acts in
     let same : at.0 ≡ control = ap (λ (m : Addressed). m.control) (one_message (record { to = ToNode id; control = at.0 }) c.in-Message.addressed (sym at.1 ∙ c.in-Message.is)) in
     renamed graph id.0 own k event (ControlTake c.in-ControlTake.place c.in-ControlTake.keep) took (Message (record { to = ToNode id; control = control })) step c.in-ControlTake.is
     (at.1 ∙ ap (λ (x : Control). Message (record { to = ToNode id; control = x })) same) (works graph id own c.in-ControlTake.place c.in-ControlTake.keep stands))
-    c.work_control.ensures
+    c.work_control.ensures.ok
+
+pub returns-in-Tick-clause-work : goal.returns-in-Tick-clause-work
+returns-in-Tick-clause-work c =
+    let k = c.args.node.now in
+    let event : Event = c.args.event.now in
+    let took : Took = c.args.took.now in
+    let n : NodeId = c.in-Tick.node in
+    let e : Event = Tick n c.in-Tick.now in
+    IfOk-weaker c.work_tick.result
+    (λ (step : Step). (graph : Graph) (node : NodeId) (own : List Record) → Stands graph node.0 own k → Works graph node.0 own (ticked node c.in-Tick.now step) k)
+    (WorksOut event took k k)
+    (λ step works graph id own names acts stands.
+    let at : (id ≡ n) × (took ≡ Nothing) = subst (λ (x : Event). ActsAt graph id x took) c.in-Tick.is acts in
+    renamed graph id.0 own k event e took Nothing step c.in-Tick.is at.1
+    (subst (λ (m : NodeId). Works graph m.0 own (record_of e Nothing step) k) (sym at.0)
+    (works graph n own (subst (λ (m : NodeId). Stands graph m.0 own k) at.0 stands))))
+    c.work_tick.ensures
+
+pub returns-in-Crash-clause-work : goal.returns-in-Crash-clause-work
+returns-in-Crash-clause-work c = λ graph id own names acts stands.
+    let k = c.args.node.now in
+    let event : Event = c.args.event.now in
+    let took : Took = c.args.took.now in
+    let n : NodeId = c.in-Crash.node in
+    let e : Event = Crash n in
+    let at : (id ≡ n) × (took ≡ Nothing) = subst (λ (x : Event). ActsAt graph id x took) c.in-Crash.is acts in
+    renamed graph id.0 own k event e took Nothing c.work_crash.result c.in-Crash.is at.1
+    (subst (λ (m : NodeId). Works graph m.0 own (record_of e Nothing c.work_crash.result) k) (sym at.0)
+    (c.work_crash.ensures graph n own (subst (λ (m : NodeId). Stands graph m.0 own k) at.0 stands)))

@@ -1,8 +1,9 @@
-use Rattle.std.proofs.Common.{List, refl, sym, subst, ◌∙◌}
+use Rattle.std.proofs.Common.{List, refl, sym, subst, ◌∙◌, Bool, true, false, if◌then◌else◌, [], ◌≡◌}
+use Rattle.pipe_base.specs.declared.control.Announced.{Announced}
 use Rattle.pipe_base.specs.declared.name.NodeId.{NodeId}
 use Rattle.pipe_base.specs.declared.step.Outcome.TheVariants.{Ok}
 use Rattle.pipe_base.specs.declared.step.Step.{Step}
-use Rattle.pipe_base.specs.Graph.{Graph}
+use Rattle.pipe_base.specs.Graph.{Graph, is_host}
 use Rattle.pipe_base.specs.Step.{quiet_step}
 use Rattle.pipe_model.specs.declared.record.Record.{Record}
 use Rattle.pipe_model.specs.Run.{IsNodeStep}
@@ -12,6 +13,11 @@ use Rattle.pipe_world.specs.declared.node.Node.TheVariants.{Host, Half}
 use Rattle.pipe_world.specs.Node.{Stands, StandsWith, Works, crashed}
 use Rattle.pipe_world.proofs.node.Node.work_crash.Goals as goal
 
+-- a crash notes nothing
+nothing_noted : (host : Bool) → ◌≡◌ {A = List Announced} [] (if host then [] else [])
+nothing_noted true = refl
+nothing_noted false = refl
+
 -- a crash is a record of the node's own in which it does nothing
 crashes : (graph : Graph) (node : NodeId) (own : List Record) → IsNodeStep graph node.0 own (crashed node (quiet_step Ok))
 crashes graph node own =
@@ -20,7 +26,7 @@ crashes graph node own =
       outcome_is = refl;
       downed_is = refl;
       dropped_is = refl;
-      noted_is = refl;
+      noted_is = nothing_noted (is_host graph node.0);
       stamped_is = refl;
       fate_is = still_fate graph node.0 own r refl;
       logged_is = still_logged graph node.0 own r refl;
@@ -36,7 +42,7 @@ ready graph node own (Host h) stands =
         host = stands.host;
         links_are = stands.links_are;
         next_is = stands.next_is;
-        held_are = stands.held_are ∙ sym (still_buffers graph node.0 own (crashed node (quiet_step Ok)) refl);
+        held_are = stands.held_are ∙ sym (still_buffers graph node.0 own (crashed node (quiet_step Ok)) refl refl);
         sender_is = stands.sender_is;
       };
       receiver = tt;

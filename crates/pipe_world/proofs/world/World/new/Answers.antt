@@ -14,14 +14,17 @@ pub invariant_of-result : goal.invariant_of-result
 invariant_of-result c =
     let graph : Graph = c.args.topology in
     subst (λ (past : List Record). Runs graph c.in_ok-nodes.nodes.items c.in_ok-queues.queues c.in_ok-controller.controller past) (ap reverse (sym c.new-3.ensures))
-    (record { controller_is = c.in_ok-controller.ensures; keeps = record {
-      is_graph = c.in_ok-nodes.ensures.graph;
-      joined = subst JoinsAllHosts c.topology.view_is c.topology.invariant;
-      few_nodes = c.in_ok-nodes.ensures.few;
-      few_links = omega (arith, c.links.ensures.value, c.links.ensures.few);
-      count = c.in_ok-nodes.ensures.count;
-      nodes_are = c.in_ok-nodes.ensures.stand;
-      queues_are = subst (λ (w : Waits). Stand graph w []) (sym c.in_ok-queues.ensures) (nothing_waits graph c.links.result c.links.ensures.value);
-      rules = tt;
-      names = All-nil (λ (r : Record). IsOfGraph graph r.event);
-    } })
+    (record {
+      controller_is = c.in_ok-controller.ensures;
+      keeps = record {
+        is_graph = c.nodes.ensures.graph;
+        joined = subst JoinsAllHosts c.topology.view_is c.topology.invariant;
+        few_nodes = omega (arith, c.nodes.ensures.value, c.nodes.ensures.few);
+        few_links = omega (arith, c.links.ensures.value, c.links.ensures.few);
+        count = c.in_ok-nodes.ensures.count;
+        nodes_are = c.in_ok-nodes.ensures.stand;
+        queues_are = subst (λ (w : Waits). Stand graph w []) (sym c.in_ok-queues.ensures) (nothing_waits graph c.links.result c.links.ensures.value);
+        rules = tt;
+        names = All-nil (λ (r : Record). IsOfGraph graph r.event);
+      };
+    })
