@@ -6,7 +6,7 @@ use pipe_base::{
     NodeId, Outcome, Packet, PacketKind, Service, Step, Ts,
 };
 use pipe_host::Host;
-use pipe_topo::TopoFault;
+use pipe_topo::{TopoFault, Topology};
 use std::alloc::Global;
 use std::process::Abort;
 
@@ -24,17 +24,18 @@ fn packet(alloc: Global, kind: PacketKind, src: u16, ts: u64, barrier: u64) -> P
 }
 
 /// A packet on link 1, with its sender, timestamp and barriers; a reading of the clock; a send to itself at a reading; a notice
-/// of one failed host with its time.
+/// of one failed host with its time; a dropped link.
 #[derive(Clone, Copy)]
 enum Call {
     Take(PacketKind, u16, u64, u64),
     Tick(u64),
     Send(Service, u64),
     Notice(u16, u64),
+    Drop(u16),
 }
 
-/// How many messages a step logged, packets it put and links went down.
-type Counts = (usize, usize, usize);
+/// How many messages a step logged, packets it put, links went down and control messages it put.
+type Counts = (usize, usize, usize, usize);
 
 /// A call with the outcome, fate and counts of its step; the commit barrier of the first packet put; and what the host
 /// promises then.
@@ -57,7 +58,7 @@ static TO_THE_END: [Row; 6] = [
         call: Call::Take(PacketKind::Plain, 7, LAST_STAMP, 0),
         outcome: Outcome::Ok,
         fate: Some(Fate::Held),
-        counts: (0, 0, 0),
+        counts: (0, 0, 0, 0),
         commit: None,
         promise: 0,
     },
@@ -65,7 +66,7 @@ static TO_THE_END: [Row; 6] = [
         call: Call::Take(PacketKind::Beacon, 0, 0, LAST_BARRIER),
         outcome: Outcome::Ok,
         fate: None,
-        counts: (1, 0, 0),
+        counts: (1, 0, 0, 0),
         commit: None,
         promise: LAST_BARRIER,
     },
@@ -73,7 +74,7 @@ static TO_THE_END: [Row; 6] = [
         call: Call::Send(Service::BestEffort, 5),
         outcome: END,
         fate: None,
-        counts: (0, 0, 0),
+        counts: (0, 0, 0, 0),
         commit: None,
         promise: LAST_BARRIER,
     },
@@ -81,7 +82,7 @@ static TO_THE_END: [Row; 6] = [
         call: Call::Tick(6),
         outcome: Outcome::Ok,
         fate: None,
-        counts: (0, 1, 0),
+        counts: (0, 1, 0, 0),
         commit: Some(LAST_BARRIER),
         promise: LAST_BARRIER,
     },
@@ -90,7 +91,7 @@ static TO_THE_END: [Row; 6] = [
         call: Call::Tick(1006),
         outcome: Outcome::Ok,
         fate: None,
-        counts: (0, 1, 1),
+        counts: (0, 1, 1, 1),
         commit: Some(LAST_BARRIER),
         promise: LAST_BARRIER,
     },
@@ -98,7 +99,7 @@ static TO_THE_END: [Row; 6] = [
         call: Call::Take(PacketKind::Plain, 7, 3, 0),
         outcome: Outcome::Ignored,
         fate: None,
-        counts: (0, 0, 0),
+        counts: (0, 0, 0, 0),
         commit: None,
         promise: LAST_BARRIER,
     },
@@ -110,7 +111,7 @@ static SETTLES: [Row; 7] = [
         call: Call::Send(Service::Reliable, 10),
         outcome: Outcome::Ok,
         fate: None,
-        counts: (0, 1, 0),
+        counts: (0, 1, 0, 0),
         commit: Some(10),
         promise: 10,
     },
@@ -118,7 +119,7 @@ static SETTLES: [Row; 7] = [
         call: Call::Take(PacketKind::Prepare, 0, 10, 10),
         outcome: Outcome::Ok,
         fate: Some(Fate::Held),
-        counts: (0, 1, 0),
+        counts: (0, 1, 0, 0),
         commit: Some(10),
         promise: 10,
     },
@@ -126,7 +127,7 @@ static SETTLES: [Row; 7] = [
         call: Call::Take(PacketKind::Prepare, 0, 10, 10),
         outcome: Outcome::Ok,
         fate: Some(Fate::Repeat),
-        counts: (0, 1, 0),
+        counts: (0, 1, 0, 0),
         commit: Some(10),
         promise: 10,
     },
@@ -134,7 +135,7 @@ static SETTLES: [Row; 7] = [
         call: Call::Tick(20),
         outcome: Outcome::Ok,
         fate: None,
-        counts: (0, 2, 0),
+        counts: (0, 2, 0, 0),
         commit: Some(10),
         promise: 10,
     },
@@ -142,7 +143,7 @@ static SETTLES: [Row; 7] = [
         call: Call::Take(PacketKind::Ack, 0, 10, 10),
         outcome: Outcome::Ok,
         fate: None,
-        counts: (0, 0, 0),
+        counts: (0, 0, 0, 0),
         commit: None,
         promise: 20,
     },
@@ -150,7 +151,7 @@ static SETTLES: [Row; 7] = [
         call: Call::Tick(21),
         outcome: Outcome::Ok,
         fate: None,
-        counts: (0, 1, 0),
+        counts: (0, 1, 0, 0),
         commit: Some(21),
         promise: 21,
     },
@@ -158,7 +159,7 @@ static SETTLES: [Row; 7] = [
         call: Call::Take(PacketKind::Beacon, 0, 0, 21),
         outcome: Outcome::Ok,
         fate: None,
-        counts: (1, 0, 0),
+        counts: (1, 0, 0, 0),
         commit: None,
         promise: 21,
     },
@@ -170,7 +171,7 @@ static DISCARDS: [Row; 6] = [
         call: Call::Take(PacketKind::Prepare, 7, 6, 0),
         outcome: Outcome::Ok,
         fate: Some(Fate::Held),
-        counts: (0, 0, 0),
+        counts: (0, 0, 0, 0),
         commit: None,
         promise: 0,
     },
@@ -178,7 +179,7 @@ static DISCARDS: [Row; 6] = [
         call: Call::Notice(7, 5),
         outcome: Outcome::Ok,
         fate: None,
-        counts: (0, 0, 0),
+        counts: (0, 0, 0, 0),
         commit: None,
         promise: 0,
     },
@@ -186,7 +187,7 @@ static DISCARDS: [Row; 6] = [
         call: Call::Take(PacketKind::Prepare, 7, 5, 0),
         outcome: Outcome::Ok,
         fate: Some(Fate::Discarded { time: Ts(5) }),
-        counts: (0, 0, 0),
+        counts: (0, 0, 0, 0),
         commit: None,
         promise: 0,
     },
@@ -194,7 +195,7 @@ static DISCARDS: [Row; 6] = [
         call: Call::Take(PacketKind::Plain, 7, 5, 0),
         outcome: Outcome::Ok,
         fate: Some(Fate::Held),
-        counts: (0, 0, 0),
+        counts: (0, 0, 0, 0),
         commit: None,
         promise: 0,
     },
@@ -202,7 +203,7 @@ static DISCARDS: [Row; 6] = [
         call: Call::Take(PacketKind::Prepare, 7, 4, 0),
         outcome: Outcome::Ok,
         fate: Some(Fate::Held),
-        counts: (0, 0, 0),
+        counts: (0, 0, 0, 0),
         commit: None,
         promise: 0,
     },
@@ -210,9 +211,154 @@ static DISCARDS: [Row; 6] = [
         call: Call::Take(PacketKind::Beacon, 0, 0, 10),
         outcome: Outcome::Ok,
         fate: None,
-        counts: (2, 0, 0),
+        counts: (2, 0, 0, 0),
         commit: None,
         promise: 6,
+    },
+];
+
+// What is taken back is not logged, whether it came before or comes later. Each recall is answered.
+static TAKES_BACK: [Row; 10] = [
+    Row {
+        call: Call::Take(PacketKind::Prepare, 0, 30, 0),
+        outcome: Outcome::Ok,
+        fate: Some(Fate::Held),
+        counts: (0, 1, 0, 0),
+        commit: Some(0),
+        promise: 0,
+    },
+    Row {
+        call: Call::Take(PacketKind::Recall, 0, 30, 0),
+        outcome: Outcome::Ok,
+        fate: None,
+        counts: (0, 1, 0, 0),
+        commit: Some(0),
+        promise: 0,
+    },
+    Row {
+        call: Call::Take(PacketKind::Prepare, 0, 30, 0),
+        outcome: Outcome::Ok,
+        fate: Some(Fate::Recalled),
+        counts: (0, 0, 0, 0),
+        commit: None,
+        promise: 0,
+    },
+    Row {
+        call: Call::Take(PacketKind::Recall, 0, 31, 0),
+        outcome: Outcome::Ok,
+        fate: None,
+        counts: (0, 1, 0, 0),
+        commit: Some(0),
+        promise: 0,
+    },
+    Row {
+        call: Call::Take(PacketKind::Recall, 0, 31, 0),
+        outcome: Outcome::Ok,
+        fate: None,
+        counts: (0, 1, 0, 0),
+        commit: Some(0),
+        promise: 0,
+    },
+    Row {
+        call: Call::Take(PacketKind::Prepare, 0, 31, 0),
+        outcome: Outcome::Ok,
+        fate: Some(Fate::Recalled),
+        counts: (0, 0, 0, 0),
+        commit: None,
+        promise: 0,
+    },
+    Row {
+        call: Call::Take(PacketKind::Beacon, 0, 0, 31),
+        outcome: Outcome::Ok,
+        fate: None,
+        counts: (0, 0, 0, 0),
+        commit: None,
+        promise: 0,
+    },
+    Row {
+        call: Call::Take(PacketKind::Prepare, 0, 30, 31),
+        outcome: Outcome::Ok,
+        fate: Some(Fate::Late { barrier: Ts(31) }),
+        counts: (0, 0, 0, 0),
+        commit: None,
+        promise: 0,
+    },
+    Row {
+        call: Call::Take(PacketKind::Prepare, 0, 31, 31),
+        outcome: Outcome::Ok,
+        fate: Some(Fate::Recalled),
+        counts: (0, 0, 0, 0),
+        commit: None,
+        promise: 0,
+    },
+    Row {
+        call: Call::Take(PacketKind::Beacon, 0, 0, 32),
+        outcome: Outcome::Ok,
+        fate: None,
+        counts: (0, 0, 0, 0),
+        commit: None,
+        promise: 0,
+    },
+];
+
+// Its one receiver has failed, so a scattering is given up. The controller is told how many failed hosts and dropped links are
+// known, and there is no beacon on a link that is dropped.
+static GIVES_UP: [Row; 7] = [
+    Row {
+        call: Call::Send(Service::Reliable, 10),
+        outcome: Outcome::Ok,
+        fate: None,
+        counts: (0, 1, 0, 0),
+        commit: Some(10),
+        promise: 10,
+    },
+    Row {
+        call: Call::Notice(0, 50),
+        outcome: Outcome::Ok,
+        fate: None,
+        counts: (0, 0, 0, 0),
+        commit: None,
+        promise: 11,
+    },
+    Row {
+        call: Call::Send(Service::Reliable, 12),
+        outcome: Outcome::DestFailed { host: HostId(0) },
+        fate: None,
+        counts: (0, 0, 0, 0),
+        commit: None,
+        promise: 11,
+    },
+    Row {
+        call: Call::Tick(20),
+        outcome: Outcome::Ok,
+        fate: None,
+        counts: (0, 1, 0, 1),
+        commit: Some(20),
+        promise: 20,
+    },
+    Row {
+        call: Call::Take(PacketKind::RecallAck, 0, 10, 10),
+        outcome: Outcome::Ok,
+        fate: None,
+        counts: (0, 0, 0, 0),
+        commit: None,
+        promise: 20,
+    },
+    Row {
+        call: Call::Drop(0),
+        outcome: Outcome::Ok,
+        fate: None,
+        counts: (0, 0, 0, 0),
+        commit: None,
+        promise: 20,
+    },
+    Row {
+        call: Call::Tick(30),
+        outcome: Outcome::Ok,
+        fate: None,
+        counts: (0, 0, 0, 2),
+        commit: None,
+        promise: 30,
     },
 ];
 
@@ -230,24 +376,36 @@ fn send(
     host.send(service, Ts(now), dests, step)
 }
 
-fn note(
-    alloc: Global,
-    host: &mut Host,
-    failed: u16,
-    time: u64,
-    step: &mut Step,
-) -> Result<(), NoMemory> {
+fn note(alloc: Global, failed: u16, time: u64) -> Result<Control, NoMemory> {
     let mut list = List::new(alloc);
     list.push(Announced {
         host: HostId(failed),
         time: Ts(time),
     })?;
-    host.control(Control::Notice { list }, step)
+    Ok(Control::Notice { list })
+}
+
+fn drop_link(alloc: Global, link: u16) -> Result<Control, NoMemory> {
+    let mut links = List::new(alloc);
+    links.push(LinkId(link))?;
+    Ok(Control::DropLinks { links })
+}
+
+fn control(
+    rt: &impl Abort,
+    topology: &Topology,
+    host: &mut Host,
+    control: Control,
+    step: &mut Step,
+) -> Result<(), NoMemory> {
+    assert!(rt; host.host().0 < topology.nodes());
+    host.control(topology, control, step)
 }
 
 fn make(
     rt: &impl Abort,
     alloc: Global,
+    topology: &Topology,
     host: &mut Host,
     call: Call,
     step: &mut Step,
@@ -258,12 +416,16 @@ fn make(
         }
         Call::Tick(now) => host.tick(Ts(now), step),
         Call::Send(service, now) => send(rt, alloc, host, service, now, step),
-        Call::Notice(failed, time) => note(alloc, host, failed, time, step),
+        Call::Notice(failed, time) => {
+            control(rt, topology, host, note(alloc, failed, time)?, step)
+        }
+        Call::Drop(link) => control(rt, topology, host, drop_link(alloc, link)?, step),
     }
 }
 
 fn has_counts(step: &Step, counts: Counts) -> bool {
-    step.logged.len() == counts.0 && step.put.len() == counts.1 && step.downed.len() == counts.2
+    let put = (step.put.len(), step.control.len());
+    step.logged.len() == counts.0 && step.downed.len() == counts.2 && put == (counts.1, counts.3)
 }
 
 fn has_commit(step: &Step, commit: Option<u64>) -> bool {
@@ -273,10 +435,16 @@ fn has_commit(step: &Step, commit: Option<u64>) -> bool {
     }
 }
 
-fn make_all(rt: &impl Abort, alloc: Global, host: &mut Host, rows: &[Row]) -> Result<(), NoMemory> {
+fn make_all(
+    rt: &impl Abort,
+    alloc: Global,
+    topology: &Topology,
+    host: &mut Host,
+    rows: &[Row],
+) -> Result<(), NoMemory> {
     let mut step = Step::new(alloc);
     for row in rows {
-        make(rt, alloc, host, row.call, &mut step)?;
+        make(rt, alloc, topology, host, row.call, &mut step)?;
         assert!(rt; step.outcome == row.outcome && step.fate == row.fate);
         assert!(rt; has_counts(&step, row.counts) && has_commit(&step, row.commit));
         assert!(rt; host.promise().0 == row.promise);
@@ -298,16 +466,16 @@ fn is_copied(host: &Host, next: u64) -> Result<bool, NoMemory> {
     Ok(is_at_rest(&copy, next))
 }
 
-fn fresh(rt: &impl Abort, alloc: Global) -> Result<Host, TopoFault> {
-    let topology = build(rt, alloc, &ONE_HOST)?;
+fn fresh(rt: &impl Abort, alloc: Global, topology: &Topology) -> Result<Host, NoMemory> {
     assert!(rt; topology.nodes() == 3);
     assert!(rt; topology.is_host(NodeId(0)));
-    Ok(Host::new(alloc, &topology, HostId(0))?)
+    Host::new(alloc, topology, HostId(0))
 }
 
 fn play(rt: &impl Abort, alloc: Global, rows: &[Row], next: u64) -> Result<(), TopoFault> {
-    let mut host = fresh(rt, alloc)?;
-    make_all(rt, alloc, &mut host, rows)?;
+    let topology = build(rt, alloc, &ONE_HOST)?;
+    let mut host = fresh(rt, alloc, &topology)?;
+    make_all(rt, alloc, &topology, &mut host, rows)?;
     assert!(rt; is_copied(&host, next)?);
     Ok(())
 }
@@ -316,5 +484,7 @@ fn play(rt: &impl Abort, alloc: Global, rows: &[Row], next: u64) -> Result<(), T
 fn steps_as_worked_out_by_hand(rt: HostRuntime) -> Result<(), TopoFault> {
     play(&rt, rt.alloc(), &TO_THE_END, LAST_BARRIER)?;
     play(&rt, rt.alloc(), &SETTLES, 21)?;
-    play(&rt, rt.alloc(), &DISCARDS, 6)
+    play(&rt, rt.alloc(), &DISCARDS, 6)?;
+    play(&rt, rt.alloc(), &TAKES_BACK, 0)?;
+    play(&rt, rt.alloc(), &GIVES_UP, 30)
 }

@@ -1,8 +1,10 @@
 // What no clause says: that calls succeed with ample memory, and the life of scatterings worked out by hand from the rules.
 ghost use Rattle.std.specs.Prelude.{◌≡◌, length, IfOk};
 
-use pipe_base::{Body, DestList, HostId, LinkId, List, NoMemory, Router, Step, Ts};
-use pipe_relsend::{AckStep, Preparing, Sender, Window};
+use pipe_base::{
+    Announced, Body, DestList, HostId, LinkId, List, NoMemory, Noted, Router, Step, Ts,
+};
+use pipe_relsend::{AckStep, FailStep, Preparing, RecallStep, Recalling, Sender, Window};
 use std::alloc::Global;
 use std::process::Abort;
 
@@ -22,11 +24,28 @@ impl Router for NoWay {
     }
 }
 
-/// A scattering to two hosts under a timestamp, or an acknowledgement of a timestamp by a host.
+/// A scattering to two hosts under a timestamp, an acknowledgement of a timestamp by a host, that so many of the failed hosts
+/// are noted, or that a host took back what has a timestamp.
 #[derive(Clone, Copy)]
 enum Call {
     Begin(u64, u16, u16),
     Ack(u64, u16),
+    Note(usize),
+    RecallAck(u64, u16),
+}
+
+// The hosts that fail, in this order.
+static FAILED: [u16; 3] = [2, 3, 1];
+
+fn first_failed(alloc: Global, count: usize) -> Result<Noted, NoMemory> {
+    let mut noted = Noted::new(alloc);
+    for host in FAILED.iter().take(count) {
+        noted.push(Announced {
+            host: HostId(*host),
+            time: Ts(50),
+        })?;
+    }
+    Ok(noted)
 }
 
 fn two(alloc: Global, first: u16, second: u16) -> Result<DestList, NoMemory>
@@ -38,7 +57,7 @@ fn two(alloc: Global, first: u16, second: u16) -> Result<DestList, NoMemory>
     Ok(dests)
 }
 
-/// Whether it is begun; of an acknowledgement, whether it is one.
+/// Whether it is begun; of another call, whether it is made.
 fn make(alloc: Global, sender: &mut Sender, call: Call) -> Result<bool, NoMemory> {
     match call {
         Call::Begin(ts, first, second) => {
@@ -49,30 +68,68 @@ fn make(alloc: Global, sender: &mut Sender, call: Call) -> Result<bool, NoMemory
             sender.ack(Ts(ts), HostId(host));
             Ok(true)
         }
+        Call::Note(count) => {
+            sender.note(&first_failed(alloc, count)?);
+            Ok(true)
+        }
+        Call::RecallAck(ts, host) => {
+            sender.recall_ack(Ts(ts), HostId(host));
+            Ok(true)
+        }
     }
 }
 
 const NEXT: Ts = Ts(99);
 
-// Each call with the scatterings that are not settled after it, the promise, and how many messages are owed again.
-static CALLS: [(Call, u16, u64, u32); 10] = [
-    (Call::Ack(10, 1), 0, 99, 0),
-    (Call::Begin(10, 1, 2), 1, 10, 2),
-    (Call::Begin(20, 2, 3), 2, 10, 4),
-    (Call::Ack(10, 3), 2, 10, 4),
-    (Call::Ack(10, 2), 2, 10, 3),
-    (Call::Ack(10, 2), 2, 10, 3),
-    (Call::Ack(20, 3), 2, 10, 2),
-    (Call::Ack(10, 1), 1, 20, 1),
-    (Call::Ack(10, 1), 1, 20, 1),
-    (Call::Ack(20, 2), 0, 99, 0),
+// Each call with the scatterings that are not settled after it, the promise, how many packets are owed again, and whether some
+// scattering is being taken back.
+type Played = (Call, u16, u64, u32, bool);
+
+static CALLS: [Played; 10] = [
+    (Call::Ack(10, 1), 0, 99, 0, false),
+    (Call::Begin(10, 1, 2), 1, 10, 2, false),
+    (Call::Begin(20, 2, 3), 2, 10, 4, false),
+    (Call::Ack(10, 3), 2, 10, 4, false),
+    (Call::Ack(10, 2), 2, 10, 3, false),
+    (Call::Ack(10, 2), 2, 10, 3, false),
+    (Call::Ack(20, 3), 2, 10, 2, false),
+    (Call::Ack(10, 1), 1, 20, 1, false),
+    (Call::Ack(10, 1), 1, 20, 1, false),
+    (Call::Ack(20, 2), 0, 99, 0, false),
 ];
 
-// What the sender will promise after an acknowledgement is known before.
+// Host 2 fails: it has acknowledged the first scattering, but not the second, which its other receiver takes back although it
+// had acknowledged it. Then host 3 fails, and the third is taken back, and last host 1, whom nobody waits for any more. A
+// scattering to failed hosts is taken back when hosts are noted again.
+static RECALLS: [Played; 15] = [
+    (Call::Begin(10, 1, 2), 1, 10, 2, false),
+    (Call::Begin(20, 2, 3), 2, 10, 4, false),
+    (Call::Begin(30, 1, 3), 3, 10, 6, false),
+    (Call::Ack(10, 2), 3, 10, 5, false),
+    (Call::Ack(20, 3), 3, 10, 4, false),
+    (Call::Note(1), 3, 10, 4, true),
+    (Call::Ack(20, 2), 3, 10, 4, true),
+    (Call::RecallAck(30, 3), 3, 10, 4, true),
+    (Call::Ack(10, 1), 2, 20, 3, true),
+    (Call::RecallAck(20, 3), 1, 30, 2, false),
+    (Call::Note(2), 1, 30, 1, true),
+    (Call::Note(2), 1, 30, 1, true),
+    (Call::Note(3), 0, 99, 0, false),
+    (Call::Begin(40, 1, 2), 1, 40, 2, false),
+    (Call::Note(3), 0, 99, 0, false),
+];
+
+// What the sender will promise after an answer is known before.
 fn foretells(sender: &Sender, call: Call, promise: u64) -> bool {
     match call {
         Call::Ack(ts, host) => sender.promise_after_ack(Ts(ts), HostId(host), NEXT).0 == promise,
-        Call::Begin(_, _, _) => true,
+        Call::RecallAck(ts, host) => {
+            sender
+                .promise_after_recall_ack(Ts(ts), HostId(host), NEXT)
+                .0
+                == promise
+        }
+        Call::Begin(_, _, _) | Call::Note(_) => true,
     }
 }
 
@@ -82,12 +139,17 @@ fn owed(alloc: Global, sender: &Sender) -> Result<u32, NoMemory> {
     Ok(step.unrouted)
 }
 
-fn make_all(rt: &impl Abort, alloc: Global, sender: &mut Sender) -> Result<(), NoMemory> {
-    for (call, unsettled, promise, count) in &CALLS {
+fn make_all(
+    rt: &impl Abort,
+    alloc: Global,
+    sender: &mut Sender,
+    calls: &[Played],
+) -> Result<(), NoMemory> {
+    for (call, unsettled, promise, count, recalling) in calls {
         assert!(rt; foretells(sender, *call, *promise));
         assert!(rt; make(alloc, sender, *call)?);
         assert!(rt; sender.unsettled() == *unsettled && sender.promise(NEXT).0 == *promise);
-        assert!(rt; owed(alloc, sender)? == *count);
+        assert!(rt; owed(alloc, sender)? == *count && sender.is_recalling() == *recalling);
     }
     Ok(())
 }
@@ -114,8 +176,14 @@ fn fill(rt: &impl Abort, alloc: Global, sender: &mut Sender) -> Result<(), NoMem
 #[test]
 fn settles_what_all_receivers_acknowledged(rt: HostRuntime) -> Result<(), NoMemory> {
     let mut sender = Sender::new(rt.alloc())?;
-    make_all(&rt, rt.alloc(), &mut sender)?;
+    make_all(&rt, rt.alloc(), &mut sender, &CALLS)?;
     fill(&rt, rt.alloc(), &mut sender.try_clone()?)
+}
+
+#[test]
+fn takes_back_what_a_failed_receiver_did_not_acknowledge(rt: HostRuntime) -> Result<(), NoMemory> {
+    let mut sender = Sender::new(rt.alloc())?;
+    make_all(&rt, rt.alloc(), &mut sender, &RECALLS)
 }
 
 /// Whether the first of two receivers and the second have acknowledged it.
@@ -142,6 +210,28 @@ fn is_prepared_by_its_last_receiver(rt: HostRuntime) -> Result<(), NoMemory> {
             assert!(rt; before == (false, false) && after == (false, true));
         }
         AckStep::Ready(_prepared) => rt.abort(),
+    }
+    Ok(())
+}
+
+/// Spends a recalled scattering for which the first of two receivers failed, and the second one has still to answer.
+fn take_back(rt: &impl Abort, recalling: Recalling) {
+    let waits = (recalling.awaits(HostId(2)), recalling.awaits(HostId(5)));
+    match recalling.ack(HostId(5)) {
+        RecallStep::Still(_recalling) => rt.abort(),
+        RecallStep::Gone(aborted) => aborted.spend(),
+    }
+    assert!(rt; waits == (false, true));
+}
+
+#[test]
+fn is_aborted_by_its_last_receiver(rt: HostRuntime) -> Result<(), NoMemory> {
+    let noted = first_failed(rt.alloc(), 1)?;
+    let preparing = Preparing::start(Ts(7), two(rt.alloc(), 2, 5)?);
+    match preparing.failed(&noted) {
+        FailStep::Recall(recalling) => take_back(&rt, recalling),
+        FailStep::Still(_unsettled) => rt.abort(),
+        FailStep::Gone(_aborted) => rt.abort(),
     }
     Ok(())
 }

@@ -105,10 +105,36 @@ fn fail_twice(rt: &impl Abort, alloc: Global, held: &mut Reorder) -> Result<(), 
     Ok(())
 }
 
+// What was taken back is never logged, and comes as such until the barrier passes it. A tombstone can be taken away again.
+fn recall_twice(rt: &impl Abort, alloc: Global, held: &mut Reorder) -> Result<(), NoMemory> {
+    let key = |ts| Key {
+        ts: Ts(ts),
+        src: HostId(5),
+    };
+    assert!(rt; held.place(message(alloc, 301, 5))? == Fate::Held);
+    held.recall(key(301))?;
+    held.recall(key(302))?;
+    held.recall(key(104))?;
+    assert!(rt; !held.holds(key(301)) && !held.is_recalled(key(104)));
+    assert!(rt; held.place(message(alloc, 301, 5))? == Fate::Recalled);
+    assert!(rt; held.place(message(alloc, 302, 5))? == Fate::Recalled);
+    held.bury(key(303))?;
+    held.unbury(None);
+    assert!(rt; held.place(message(alloc, 303, 5))? == Fate::Held);
+    held.bury(key(303))?;
+    let mut logged = List::new(alloc);
+    held.pass(Ts(302), &mut logged)?;
+    are_logged(rt, &logged, &[(203, 4)]);
+    held.drop_buried();
+    assert!(rt; held.len() == 0 && !held.is_recalled(key(301)) && held.is_recalled(key(302)));
+    Ok(())
+}
+
 #[test]
 fn logs_in_the_total_order(rt: HostRuntime) -> Result<(), NoMemory> {
     let mut held = Reorder::new(rt.alloc(), Service::BestEffort);
     hold_and_undo(&rt, rt.alloc(), &mut held)?;
     play(&rt, rt.alloc(), &mut held)?;
-    fail_twice(&rt, rt.alloc(), &mut held)
+    fail_twice(&rt, rt.alloc(), &mut held)?;
+    recall_twice(&rt, rt.alloc(), &mut held)
 }

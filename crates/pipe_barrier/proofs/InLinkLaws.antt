@@ -5,7 +5,7 @@ use Rattle.std.proofs.lemmas.Bool.{cases_lt}
 use Rattle.std.proofs.lemmas.List.{drop_all, take_more}
 use Rattle.pipe_base.specs.declared.name.LinkId.{LinkId}
 use Rattle.pipe_base.specs.declared.name.Ts.{Ts}
-use Rattle.pipe_base.specs.Moment.{Moment, WentDown, is_up, with_downed}
+use Rattle.pipe_base.specs.Moment.{Moment, WentDown, Dropped, is_up, with_downed, with_dropped}
 use Rattle.pipe_base.specs.Silence.{QuietCall, is_silent, goes_down, mark_of, silent_marks}
 use Rattle.pipe_barrier.specs.declared.quiet.Quiet.{Quiet}
 use Rattle.pipe_barrier.specs.declared.register.Register.{Register}
@@ -74,3 +74,19 @@ pub downed_turn : (marks : List (LinkId × Ts)) (i : ℕ) (d : LinkId × Ts) (pa
     → with_downed (take (i + 1) marks) past ≡ WentDown (get_or marks i d).0.0 ∷ with_downed (take i marks) past
 downed_turn marks i d past lt =
     ap (λ (xs : List (LinkId × Ts)). with_downed xs past) (take_more marks i d lt) ∙ with_downed-append (take i marks) (get_or marks i d) past
+
+-- ---- links that are dropped
+
+with_dropped-append : (xs : List LinkId) (l : LinkId) (past : List Moment) → with_dropped (xs ++ l ∷ []) past ≡ Dropped l.0 ∷ with_dropped xs past
+with_dropped-append [] l past = refl
+with_dropped-append (x ∷ xs) l past = with_dropped-append xs l (Dropped x.0 ∷ past)
+
+-- one link more is dropped
+pub dropped_turn : (links : List LinkId) (i : ℕ) (d : LinkId) (past : List Moment) → i < length links
+    → with_dropped (take (i + 1) links) past ≡ Dropped (get_or links i d).0 ∷ with_dropped (take i links) past
+dropped_turn links i d past lt =
+    ap (λ (xs : List LinkId). with_dropped xs past) (take_more links i d lt) ∙ with_dropped-append (take i links) (get_or links i d) past
+
+-- where none is dropped
+pub none_dropped : (links : List LinkId) (past : List Moment) → links ≡ [] → with_dropped links past ≡ past
+none_dropped links past none = ap (λ (ls : List LinkId). with_dropped ls past) none

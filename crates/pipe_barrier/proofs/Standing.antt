@@ -1,5 +1,5 @@
 -- What is kept stands for one moment more, and what a search among the registers finds.
-use Rattle.std.proofs.Common.{◌≡◌, ℕ, ◌+◌, ◌<◌, ◌≤◌, ◌==◌, ◌&&◌, ◌||◌, if◌then◌else◌, max, min, Bool, true, false, cond, not, Option, None, Some, unwrap_or, option_map, nat_le, List, [], ◌∷◌, ◌++◌, length, get_or, take, drop, map, filter, find, reverse, refl, sym, ap, ap₂, ◌∙◌, le_refl, le_trans, arith}
+use Rattle.std.proofs.Common.{◌≡◌, ℕ, ◌+◌, ◌<◌, ◌≤◌, ◌==◌, ◌&&◌, ◌||◌, if◌then◌else◌, max, min, Bool, true, false, cond, not, Option, None, Some, unwrap_or, option_map, nat_le, List, [], ◌∷◌, length, get_or, drop, map, filter, find, reverse, refl, sym, ap, ap₂, ◌∙◌, le_refl, le_trans, arith}
 use Rattle.std.specs.List.{list_any}
 use Rattle.std.proofs.lemmas.List.{at_drop_more, at_drop_all}
 use Rattle.std.proofs.lemmas.Bool.Decides.{nat_tests}
@@ -17,7 +17,7 @@ use Rattle.pipe_barrier.specs.declared.register.Register.{Register}
 use Rattle.pipe_barrier.specs.declared.registers.Barriers.{Barriers}
 use Rattle.pipe_barrier.specs.Register.{register_of, moment_of, changed, register_after, lowered, is_counted, value_of, least_from, told_of}
 use Rattle.pipe_barrier.specs.Registers.{AreBarriers, Stands, downs, downs_among, is_down, kept_with, holds}
-use Rattle.pipe_barrier.proofs.Walk.{read_ahead, found_first}
+use Rattle.pipe_barrier.proofs.Walk.{found_first}
 
 -- ---- the registers
 

@@ -1,6 +1,6 @@
 // The registers and the silence of a node's in-links together.
 ghost use Rattle.std.specs.Prelude.{◌≡◌, ◌==◌, ◌&&◌, ◌∷◌, [], ℕ, List, IfOk};
-ghost use Rattle.pipe_base.specs.Moment.{Moment, Received, is_up, has_link, with_downed};
+ghost use Rattle.pipe_base.specs.Moment.{Moment, Received, is_up, has_link, with_downed, with_dropped};
 ghost use Rattle.pipe_base.specs.Silence.{QuietCall, Took, Ticked, silent_marks};
 ghost use Rattle.pipe_barrier.specs.Registers.{AreBarriers, downs};
 ghost use Rattle.pipe_barrier.specs.Registers as registers;
@@ -9,7 +9,7 @@ ghost use Rattle.pipe_barrier.specs.InLinks.{Stands, marks_among};
 use crate::quiet::Quiet;
 use crate::register::Register;
 use crate::{Barriers, Registers, Silence};
-use pipe_base::{AddressedList, DownList, LinkId, NoMemory, Ts};
+use pipe_base::{AddressedList, DownList, LinkId, LinkList, NoMemory, Ts};
 use std::alloc::Global;
 
 /// What a node keeps of its in-links: the registers, and how long each has been silent.
@@ -93,6 +93,22 @@ impl InLinks {
         Ok(registers.barriers())
     }
 
+    /// The barriers after some links have gone down and then others were dropped, one after the other. The registers
+    /// are copied only where some link goes.
+    pub fn barriers_after(&self, marks: &DownList, drops: &LinkList) -> Result<Barriers, NoMemory>
+        ensures { IfOk result (λ barriers. (ins : List LinkId) (patience : ℕ)
+            (moments : List Moment) (calls : List QuietCall)
+            → Stands ins patience self.now moments calls
+            → AreBarriers ins (with_dropped drops.now (with_downed marks.now moments)) barriers) }
+    {
+        if drops.is_empty() {
+            return self.barriers_without(marks);
+        }
+        let mut registers = self.registers_without(marks)?;
+        registers.remove_each(drops.as_slice());
+        Ok(registers.barriers())
+    }
+
     /// What the controller is told after these links have gone down: of each in-link that is down
     /// and not dropped, these too, its frozen value. The registers are copied only where some link
     /// goes.
@@ -149,6 +165,16 @@ impl InLinks {
             → Stands ins patience self.new (with_downed marks.now moments) calls }
     {
         self.registers.down_each(marks);
+    }
+
+    /// Takes over that the node came to know these links as dropped. Those that are no in-links have no effect. Takes
+    /// no memory.
+    pub fn remove(&mut self, drops: &[LinkId])
+        ensures { (ins : List LinkId) (patience : ℕ) (moments : List Moment) (calls : List QuietCall)
+            → Stands ins patience self.old moments calls
+            → Stands ins patience self.new (with_dropped drops.now moments) calls }
+    {
+        self.registers.remove_each(drops);
     }
 
     pub fn try_clone(&self) -> Result<InLinks, NoMemory>

@@ -2,7 +2,7 @@
 ghost use Rattle.std.specs.Prelude.{◌≡◌, ◌==◌, ◌&&◌, ◌∷◌, [], if◌then◌else◌, List, max, map, not, true, reverse, None, unwrap_or, find, option_copied, IfOk};
 ghost use Rattle.std.specs.List.{list_any};
 ghost use Rattle.pipe_base.specs.declared.packet.Plane.TheVariants.{BestEffort, Commit};
-ghost use Rattle.pipe_base.specs.Moment.{Moment, Received, WentDown, Dropped, is_up, is_kept, has_link, with_downed};
+ghost use Rattle.pipe_base.specs.Moment.{Moment, Received, WentDown, Dropped, is_up, is_kept, has_link, with_downed, with_dropped};
 ghost use Rattle.pipe_base.specs.Barrier.{register};
 ghost use Rattle.pipe_barrier.specs.Register.{moment_of, register_after, least_from};
 ghost use Rattle.pipe_barrier.specs.Registers.{Stands, AddsMoment, AreBarriersAfter, downs, downs_among, kept_with, holds};
@@ -94,6 +94,16 @@ impl Registers {
     {
         'marks: for (link, _) in marks {
             self.down(*link);
+        }
+    }
+
+    /// The node came to know links as dropped, one after the other. Those that are no in-links have no effect.
+    pub(crate) fn remove_each(&mut self, links: &[LinkId])
+        ensures { (ins : List LinkId) (past : List Moment) → Stands ins self.old past
+            → Stands ins self.new (with_dropped links.now past) }
+    {
+        'drops: for link in links {
+            self.remove(*link);
         }
     }
 

@@ -1,10 +1,15 @@
--- What is settled stays settled, and the promise is below each scattering that is not settled.
-use Rattle.std.proofs.Common.{◌≡◌, ℕ, ◌<◌, ◌≤◌, ◌&&◌, ◌||◌, ◌==◌, not, Bool, true, false, if◌then◌else◌, List, [], ◌∷◌, ◌++◌, filter, refl, arith}
-use Rattle.std.specs.List.{All, list_all}
-use Rattle.std.proofs.lemmas.List.Elements.{All-nil, All-cons, All-head, All-tail, All-weaker, All-append}
-use Rattle.pipe_base.specs.Promise.{least_from, least_or}
-use Rattle.pipe_base.specs.Scattering.{Scattering, SenderCall, Began, Acked, AreRising, is_begun}
-use Rattle.pipe_base.specs.Settled.{is_acked, is_settled}
+-- What is settled stays settled whatever happens, the promise is below each scattering that is not settled, and rises.
+use Rattle.std.proofs.Common.{◌≡◌, ℕ, ◌<◌, ◌≤◌, ◌&&◌, ◌||◌, ◌==◌, not, Bool, true, false, if◌then◌else◌, List, [], ◌∷◌, ◌++◌, filter, refl, sym, subst, ap, arith}
+use Rattle.std.specs.List.{All, list_all, list_any}
+use Rattle.std.proofs.lemmas.List.Elements.{All-nil, All-cons, All-head, All-tail, All-weaker, All-append, All-filter, filter-append}
+use Rattle.pipe_base.specs.Failed.{is_announced}
+use Rattle.pipe_base.specs.Promise.{least_from, least_or, promise_of}
+use Rattle.pipe_base.specs.Scattering.{Scattering, SenderCall, Acked, Began, Noted, RecallAcked, AreRising, begun, is_begun}
+use Rattle.pipe_base.specs.Settled.{awaits, has_failed, is_acked, is_noted, is_prepared, is_recall_acked, is_recalled, is_settled, unsettled}
+
+or_left : (a b : Bool) → a ≡ true → (a || b) ≡ true
+or_left true b is = refl
+or_left false b is = cc
 
 or_right : (a b : Bool) → b ≡ true → (a || b) ≡ true
 or_right true b is = refl
@@ -14,6 +19,44 @@ or_right false b is = is
 pub acked_stays : (c : SenderCall) (calls : List SenderCall) (ts host : ℕ) → is_acked calls ts host ≡ true → is_acked (c ∷ calls) ts host ≡ true
 acked_stays (Began s) calls ts host is = is
 acked_stays (Acked t h) calls ts host is = or_right (((ts == t) && (host == h)) && is_begun calls ts) (is_acked calls ts host) is
+acked_stays (Noted failed) calls ts host is = is
+acked_stays (RecallAcked t h) calls ts host is = is
+
+-- a host that is noted as failed stays noted
+pub noted_stays : (c : SenderCall) (calls : List SenderCall) (host : ℕ) → is_noted calls host ≡ true → is_noted (c ∷ calls) host ≡ true
+noted_stays (Began s) calls host is = is
+noted_stays (Acked t h) calls host is = is
+noted_stays (Noted failed) calls host is = or_right (is_announced host failed) (is_noted calls host) is
+noted_stays (RecallAcked t h) calls host is = is
+
+-- what is recalled stays recalled
+pub recalled_stays : (c : SenderCall) (calls : List SenderCall) (s : Scattering) → is_recalled calls s ≡ true → is_recalled (c ∷ calls) s ≡ true
+recalled_stays (Began t) calls s is = is
+recalled_stays (Acked t h) calls s is = is
+recalled_stays (Noted failed) calls s is = or_left (is_recalled calls s) (is_begun calls s.ts.0 && has_failed (Noted failed ∷ calls) s) is
+recalled_stays (RecallAcked t h) calls s is = is
+
+-- what a host took back stays taken back
+pub recall_acked_stays : (c : SenderCall) (calls : List SenderCall) (s : Scattering) (host : ℕ) → is_recall_acked calls s host ≡ true → is_recall_acked (c ∷ calls) s host ≡ true
+recall_acked_stays (Began t) calls s host is = is
+recall_acked_stays (Acked t h) calls s host is = is
+recall_acked_stays (Noted failed) calls s host is = is
+recall_acked_stays (RecallAcked t h) calls s host is = or_right (((s.ts.0 == t) && (host == h)) && is_recalled calls s) (is_recall_acked calls s host) is
+
+or_true : (b : Bool) → (b || true) ≡ true
+or_true true = refl
+or_true false = refl
+
+unwaited : (a b x y : Bool) → (a ≡ true → x ≡ true) → (b ≡ true → y ≡ true) → not (a || b) ≡ false → not (x || y) ≡ false
+unwaited true b x y here there is = let first : x ≡ true = here refl in rw first refl
+unwaited false true x y here there is = let second : y ≡ true = there refl in rw second (ap not (or_true x))
+unwaited false false x y here there is = cc
+
+-- a receiver that is not waited for is never waited for again
+pub unwaited_stays : (c : SenderCall) (calls : List SenderCall) (s : Scattering) (host : ℕ) → awaits calls s host ≡ false → awaits (c ∷ calls) s host ≡ false
+unwaited_stays c calls s host is =
+    unwaited (is_noted calls host) (is_recall_acked calls s host) (is_noted (c ∷ calls) host) (is_recall_acked (c ∷ calls) s host)
+    (noted_stays c calls host) (recall_acked_stays c calls s host) is
 
 more_here : (before now rest left : Bool) → (before ≡ true → now ≡ true) → (rest ≡ true → left ≡ true) → (before && rest) ≡ true → (now && left) ≡ true
 more_here true now rest left here there is = let first : now ≡ true = here refl in rw first (there is)
@@ -23,10 +66,65 @@ all_more : {X : Type 0} (p q : X → Bool) (xs : List X) → ((x : X) → p x �
 all_more p q [] more all = refl
 all_more p q (x ∷ xs) more all = more_here (p x) (q x) (list_all p xs) (list_all q xs) (more x) (all_more p q xs more) all
 
+less_here : (before now rest left : Bool) → (before ≡ false → now ≡ false) → (rest ≡ false → left ≡ false) → (before || rest) ≡ false → (now || left) ≡ false
+less_here true now rest left here there is = cc
+less_here false now rest left here there is = let first : now ≡ false = here refl in rw first (there is)
+
+none_more : {X : Type 0} (p q : X → Bool) (xs : List X) → ((x : X) → p x ≡ false → q x ≡ false) → list_any p xs ≡ false → list_any q xs ≡ false
+none_more p q [] less none = refl
+none_more p q (x ∷ xs) less none = less_here (p x) (q x) (list_any p xs) (list_any q xs) (less x) (none_more p q xs less) none
+
+-- what all receivers acknowledged they acknowledged for good
+pub prepared_stays : (c : SenderCall) (calls : List SenderCall) (s : Scattering) → is_prepared calls s ≡ true → is_prepared (c ∷ calls) s ≡ true
+prepared_stays c calls s is =
+    all_more (λ d. is_acked calls s.ts.0 d.0.0) (λ d. is_acked (c ∷ calls) s.ts.0 d.0.0) s.dests (λ d acked. acked_stays c calls s.ts.0 d.0.0 acked) is
+
+none_open : (p q : Bool) (rest left : Bool) → (left ≡ true → rest ≡ false) → (q && left) ≡ true → ((p && not q) || rest) ≡ false
+none_open p false rest left more is = cc
+none_open true true rest left more is = more is
+none_open false true rest left more is = more is
+
+none_without : {X : Type 0} (p q : X → Bool) (xs : List X) → list_all q xs ≡ true → list_any (λ x. p x && not (q x)) xs ≡ false
+none_without p q [] all = refl
+none_without p q (x ∷ xs) all = none_open (p x) (q x) (list_any (λ y. p y && not (q y)) xs) (list_all q xs) (none_without p q xs) all
+
+neither : (a b c : Bool) → a ≡ false → c ≡ false → (a || (b && c)) ≡ false
+neither true b c first last = cc
+neither false true c first last = last
+neither false false c first last = refl
+
+-- what all receivers acknowledged, and is not recalled, is never recalled
+pub unrecalled_stays : (c : SenderCall) (calls : List SenderCall) (s : Scattering) → is_prepared calls s ≡ true → is_recalled calls s ≡ false → is_recalled (c ∷ calls) s ≡ false
+unrecalled_stays (Began t) calls s prepared is = is
+unrecalled_stays (Acked t h) calls s prepared is = is
+unrecalled_stays (Noted failed) calls s prepared is =
+    neither (is_recalled calls s) (is_begun calls s.ts.0) (has_failed (Noted failed ∷ calls) s) is
+    (none_without (λ d. is_noted (Noted failed ∷ calls) d.0.0) (λ d. is_acked calls s.ts.0 d.0.0) s.dests prepared)
+unrecalled_stays (RecallAcked t h) calls s prepared is = is
+
+taken_back : (recalled waiting prepared : Bool) → recalled ≡ true → waiting ≡ false → (if recalled then not waiting else prepared) ≡ true
+taken_back recalled waiting prepared is none = rw (is, none) refl
+
+held : (recalled waiting prepared : Bool) → recalled ≡ false → prepared ≡ true → (if recalled then waiting else prepared) ≡ true
+held recalled waiting prepared is all = rw is all
+
+not_of : (b : Bool) → not b ≡ true → b ≡ false
+not_of true is = cc
+not_of false is = refl
+
+settled_as : (c : SenderCall) (calls : List SenderCall) (s : Scattering) (recalled : Bool) → is_recalled calls s ≡ recalled
+    → (if recalled then not (list_any (λ d. awaits calls s d.0.0) s.dests) else is_prepared calls s) ≡ true → is_settled (c ∷ calls) s ≡ true
+settled_as c calls s true recalled is =
+    taken_back (is_recalled (c ∷ calls) s) (list_any (λ d. awaits (c ∷ calls) s d.0.0) s.dests) (is_prepared (c ∷ calls) s) (recalled_stays c calls s recalled)
+    (none_more (λ d. awaits calls s d.0.0) (λ d. awaits (c ∷ calls) s d.0.0) s.dests (λ d less. unwaited_stays c calls s d.0.0 less)
+    (not_of (list_any (λ d. awaits calls s d.0.0) s.dests) is))
+settled_as c calls s false recalled is =
+    held (is_recalled (c ∷ calls) s) (not (list_any (λ d. awaits (c ∷ calls) s d.0.0) s.dests)) (is_prepared (c ∷ calls) s) (unrecalled_stays c calls s is recalled)
+    (prepared_stays c calls s is)
+
 -- what is settled stays settled
 pub settled_stays : (c : SenderCall) (calls : List SenderCall) (s : Scattering) → is_settled calls s ≡ true → is_settled (c ∷ calls) s ≡ true
-settled_stays c calls s is =
-    all_more (λ d. is_acked calls s.ts.0 d.0.0) (λ d. is_acked (c ∷ calls) s.ts.0 d.0.0) s.dests (λ d acked. acked_stays c calls s.ts.0 d.0.0 acked) is
+settled_stays c calls s is = settled_as c calls s (is_recalled calls s) refl is
 
 -- what holds of all that a weaker test keeps holds of all that a stronger one keeps
 stays_of : (c : SenderCall) (calls : List SenderCall) (P : Scattering → Type 0) (s : Scattering) (ss : List Scattering) (before now : Bool)
@@ -99,3 +197,28 @@ rising_more (x ∷ ss) s rising below = (
       (All-cons (λ (t : Scattering). x.ts.0 < t.ts.0) s [] (All-head (λ (t : Scattering). t.ts.0 < s.ts.0) x ss below) (All-nil (λ (t : Scattering). x.ts.0 < t.ts.0))),
   rising_more ss s rising.1 (All-tail (λ (t : Scattering). t.ts.0 < s.ts.0) x ss below),
 )
+
+-- ---- the promise, one call on
+
+-- where the call begins a scattering, that is not below the bound
+abbrev pub BeginsFrom : ℕ → SenderCall → Type 0
+BeginsFrom bound (Began s) = bound ≤ s.ts.0
+BeginsFrom bound _ = Unit {0}
+
+-- what is not settled is not below a bound, one call on
+pub left_from : (bound : ℕ) (c : SenderCall) (calls : List SenderCall) → BeginsFrom bound c → All (λ s. bound ≤ s.ts.0) (unsettled calls) → All (λ s. bound ≤ s.ts.0) (unsettled (c ∷ calls))
+left_from bound (Began s) calls from all =
+    let P : Scattering → Type 0 = λ t. bound ≤ t.ts.0 in
+    let left : Scattering → Bool = λ t. not (is_settled (Began s ∷ calls) t) in
+    subst (All P) (sym (filter-append left (begun calls) (s ∷ [])))
+    (All-append P (filter left (begun calls)) (filter left (s ∷ [])) (unsettled_left (Began s) calls P (begun calls) all) (All-filter left P (s ∷ []) (All-cons P s [] from (All-nil P))))
+left_from bound (Acked t h) calls from all = unsettled_left (Acked t h) calls (λ (s : Scattering). bound ≤ s.ts.0) (begun calls) all
+left_from bound (Noted failed) calls from all = unsettled_left (Noted failed) calls (λ (s : Scattering). bound ≤ s.ts.0) (begun calls) all
+left_from bound (RecallAcked t h) calls from all = unsettled_left (RecallAcked t h) calls (λ (s : Scattering). bound ≤ s.ts.0) (begun calls) all
+
+-- the promise rises, where scatterings are begun from the next timestamp on
+pub promise_stays : (next later : ℕ) (c : SenderCall) (calls : List SenderCall) → next ≤ later → BeginsFrom (promise_of next calls) c → All (λ s. s.ts.0 < next) (unsettled calls)
+    → promise_of next calls ≤ promise_of later (c ∷ calls)
+promise_stays next later c calls le from below =
+    let within : promise_of next calls ≤ next = least_below_next next (unsettled calls) below in
+    least_above (promise_of next calls) later (unsettled (c ∷ calls)) (omega (arith, within, le)) (left_from (promise_of next calls) c calls from (least_of_each next (unsettled calls)))

@@ -39,6 +39,10 @@ has_key key messages = list_any (λ m. same_key m.0 key) messages
 abbrev pub without_message : Key → Messages → Messages
 without_message key messages = filter (λ m. not (same_key m.0 key)) messages
 
+-- the messages but for those whose keys pass a test
+abbrev pub without_keys : (Key → Bool) → Messages → Messages
+without_keys test messages = filter (λ m. not (test m.0)) messages
+
 -- the messages whose timestamp is at least a barrier
 abbrev pub from_barrier : ℕ → Messages → Messages
 from_barrier barrier messages = filter (λ m. nat_le barrier m.0.ts.0) messages

@@ -5,7 +5,7 @@ use Rattle.pipe_base.specs.declared.name.Ts.{Ts}
 use Rattle.pipe_base.specs.declared.packet.Packet.{Packet}
 use Rattle.pipe_base.specs.declared.message.Service.{Service}
 use Rattle.pipe_base.specs.declared.message.Service.TheVariants.{BestEffort, Reliable}
-use Rattle.pipe_base.specs.declared.packet.PacketKind.TheVariants.{Ack, Beacon, Plain, Prepare, Recall}
+use Rattle.pipe_base.specs.declared.packet.PacketKind.TheVariants.{Ack, Beacon, Plain, Prepare, Recall, RecallAck}
 
 -- the two barriers of a packet
 pub record Fields : Type 0 where
@@ -37,6 +37,10 @@ ack_to src f p = record { kind = Ack; src = src; dst = p.src; ts = p.ts; be = ts
 -- the taking back of the reliable message to one receiver of a scattering
 abbrev pub recall_to : HostId → Ts → Fields → (HostId × List ℕ) → Packet
 recall_to src ts f dest = record (message_to src ts f dest) { kind = Recall; body = [] }
+
+-- a receiver's answer that it took the message back, to the sender of the message
+abbrev pub recall_ack_to : HostId → Fields → Packet → Packet
+recall_ack_to src f p = record (ack_to src f p) { kind = RecallAck }
 
 -- a packet that goes on, with the fields of the half that passes it on
 abbrev pub forwarded : Fields → Packet → Packet

@@ -1,6 +1,7 @@
 -- What happens at a sender of reliable scatterings, newest first, and which of them were begun.
 use Rattle.std.specs.Prelude.{ℕ, ◌==◌, ◌<◌, Bool, List, [], ◌∷◌, ◌++◌, All}
 use Rattle.std.specs.List.{list_any}
+use Rattle.pipe_base.specs.declared.control.Announced.{Announced}
 use Rattle.pipe_base.specs.declared.name.HostId.{HostId}
 use Rattle.pipe_base.specs.declared.name.Ts.{Ts}
 
@@ -14,12 +15,16 @@ pub data SenderCall : Type 0 where
   Began : (scattering : Scattering) → SenderCall
   -- a host acknowledged the scattering with this timestamp
   Acked : (ts host : ℕ) → SenderCall
+  -- failed hosts were noted: these are all that are noted now
+  Noted : (failed : List Announced) → SenderCall
+  -- a host told that it took back the scattering with this timestamp
+  RecallAcked : (ts host : ℕ) → SenderCall
 
 -- the scatterings that were begun, the oldest first
 abbrev pub begun : List SenderCall → List Scattering
 begun [] = []
 begun (Began s ∷ past) = begun past ++ s ∷ []
-begun (Acked ts host ∷ past) = begun past
+begun (_ ∷ past) = begun past
 
 -- a scattering with this timestamp was begun
 abbrev pub is_begun : List SenderCall → ℕ → Bool

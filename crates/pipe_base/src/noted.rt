@@ -1,25 +1,27 @@
 // The failed hosts that a host has noted.
-ghost use Rattle.std.specs.Prelude.{◌≡◌, [], ◌∷◌, ◌++◌, length, take, drop, IfOk, OnOk, OnErr, is_some};
+ghost use Rattle.std.specs.Prelude.{◌≡◌, [], ◌∷◌, ◌++◌, ◌≤◌, length, take, drop, IfOk, OnOk, OnErr, is_some};
 ghost use Rattle.pipe_base.specs.Failed.{is_announced, past_known, time_of};
 
 use crate::{Announced, AnnouncedList, HostId, NoMemory, Ts};
 use std::alloc::Global;
 use std::marker::Model;
 
-/// Failed hosts in the order in which a host came to know of them. The list only grows, and the
-/// first time of a host stands.
+/// Failed hosts in the order in which a host came to know of them, at most 65,535 entries. The list
+/// only grows, and the first time of a host stands.
 #[derive(Clone, Debug, Drop)]
 pub struct Noted {
     entries: Vec<Announced>,
 }
 
 impl Model for Noted {
-    ghost use Rattle.std.specs.Prelude.{List};
+    ghost use Rattle.std.specs.Prelude.{◌≤◌, List, length};
     ghost use Rattle.pipe_base.specs.declared.control.Announced.{Announced};
 
     ghost Value = { List Announced };
 
     ghost view = { λ n. n.entries.items };
+
+    ghost invariant = { λ n. length n.entries.items ≤ 65535 };
 }
 
 impl Noted {
@@ -33,6 +35,7 @@ impl Noted {
     }
 
     /// Notes the entries of an announcement past the number of those noted, and answers how many.
+    /// For more than 65,535 in all there is no memory.
     pub fn adopt(&mut self, list: &AnnouncedList) -> Result<usize, NoMemory>
         ensures noted { OnOk result (self.new ≡ self.old ++ past_known self.old list.now) }
         ensures count { IfOk result (λ count. count ≡ length (past_known self.old list.now)) }
@@ -42,6 +45,9 @@ impl Noted {
         let Some(news) = list.as_slice().get(known..) else {
             return Ok(0);
         };
+        if news.len() > usize::from(u16::MAX) - known {
+            return Err(NoMemory);
+        }
         self.entries.extend_from_slice(news)?;
         Ok(news.len())
     }
@@ -51,6 +57,9 @@ impl Noted {
         ensures ok { OnOk result (self.new ≡ self.old ++ entry ∷ []) }
         ensures err { OnErr result (self.new ≡ self.old) }
     {
+        if self.entries.len() == usize::from(u16::MAX) {
+            return Err(NoMemory);
+        }
         self.entries.push(entry)?;
         Ok(())
     }
@@ -83,7 +92,8 @@ impl Noted {
 
     /// How many entries are noted.
     pub fn count(&self) -> usize
-        ensures { result ≡ length self.now }
+        ensures value { result ≡ length self.now }
+        ensures few { result ≤ 65535 }
     {
         self.entries.len()
     }

@@ -1,9 +1,12 @@
--- Lemmas on the set of the kept hosts while it is filled.
-use Rattle.std.proofs.Common.{◌≡◌, ℕ, ◌+◌, ◌<◌, Bool, true, false, ◌&&◌, not, List, length, set, ap, arith}
+-- Lemmas on the sets of the kept hosts and of the links that are left, while they are filled.
+use Rattle.std.proofs.Common.{◌≡◌, ℕ, ◌+◌, ◌<◌, Bool, true, false, ◌&&◌, not, List, length, set, replicate, ap, arith}
 use Rattle.std.proofs.lemmas.List.{get_or_past}
 use Rattle.pipe_failtime.specs.Filled.{IsFilled}
-use Rattle.pipe_failtime.proofs.FilledLaws.{filled_in, filled_is, filled_out}
+use Rattle.pipe_failtime.proofs.FilledLaws.{filled_in, filled_is, filled_none, filled_out}
 use Rattle.pipe_topo.specs.Sets.{has}
+
+pub kept_none : (count : ℕ) (test : ℕ → Bool) → IsFilled (replicate count false) count test 0
+kept_none = filled_none
 
 pub kept_in : (xs : List Bool) (count : ℕ) (test : ℕ → Bool) (i : ℕ) → IsFilled xs count test i → i < count → test i ≡ true → IsFilled (set xs i true) count test (i + 1)
 kept_in = filled_in

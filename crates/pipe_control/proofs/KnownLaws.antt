@@ -1,9 +1,8 @@
 -- Lemmas on what the controller knows.
-use Rattle.std.proofs.Common.{◌≡◌, inl, inr, ℕ, ◌-◌, ◌<◌, ◌==◌, nat_lt, Bool, true, false, if◌then◌else◌, List, [], ◌++◌, length, set, replicate, get_or, Option, None, Some, refl, sym, ap, subst, ◌∙◌, arith}
+use Rattle.std.proofs.Common.{◌≡◌, inl, inr, ℕ, ◌-◌, ◌<◌, ◌==◌, nat_lt, Bool, true, false, if◌then◌else◌, List, [], ◌++◌, length, set, replicate, get_or, Option, None, Some, refl, sym, ap, ◌∙◌, arith}
 use Rattle.std.proofs.lemmas.Bool.{le-ltb, lt-ltb}
 use Rattle.std.proofs.lemmas.Bool.Decides.{eqb_tells, leb_tells}
 use Rattle.std.proofs.lemmas.List.{get_or_append_left, get_or-append_right, get_or-replicate, get_or-set_same, get_or-set_other, get_or_past, length-replicate}
-use Rattle.pipe_base.specs.declared.control.Announced.{Announced}
 use Rattle.pipe_base.specs.declared.name.LinkId.{LinkId}
 use Rattle.pipe_base.specs.declared.name.Ts.{Ts}
 use Rattle.pipe_base.specs.declared.step.Outcome.TheVariants.{Ok}
@@ -13,9 +12,9 @@ use Rattle.pipe_base.specs.Reported.{unreported}
 use Rattle.pipe_base.specs.Step.{quiet_step}
 use Rattle.pipe_control.specs.declared.controller.Controller.{Controller}
 use Rattle.pipe_control.specs.declared.controller.Decision.{Decision}
-use Rattle.pipe_control.specs.Known.{IsDecision, reports_with, view_of, view_with}
+use Rattle.pipe_control.specs.Known.{IsDecision, count_of, reports_with, view_of}
 use Rattle.pipe_model.specs.Controller.{decision}
-use Rattle.pipe_model.specs.Decision.{after_announce, after_decision, after_doom, messages, newly_announced}
+use Rattle.pipe_model.specs.Decision.{after_announce, after_decision, after_doom, after_drop, messages, newly_announced, newly_dead}
 use Rattle.pipe_model.specs.View.{View, first_view, intact, with_report}
 use Rattle.pipe_topo.specs.Reports.{report_of}
 use Rattle.pipe_topo.specs.Sets.{has}
@@ -46,15 +45,18 @@ first_ones count others n = elim (leb_tells count n) [
       ∙ get_or-replicate count n true false lt ∙ sym (lt-ltb n count lt)
 ]
 
-pub first_known : (graph : Graph) (k : Controller) (links hosts others : ℕ) → k.members ≡ replicate hosts true ++ replicate others false → k.live ≡ replicate links true
-    → k.reports ≡ replicate links None → k.doomed ≡ replicate 64 false → k.announced ≡ [] → links ≡ length graph.links → hosts ≡ graph.hosts → view_of k ≡ first_view graph
-first_known graph k links hosts others members live reports doomed announced all few = λ i. record {
+pub first_known : (graph : Graph) (k : Controller) (links hosts others nodes : ℕ) → k.members ≡ replicate hosts true ++ replicate others false → k.live ≡ replicate links true
+    → k.reports ≡ replicate links None → k.doomed ≡ replicate 64 false → k.announced ≡ [] → k.dropped ≡ [] → k.done ≡ replicate 64 0 → k.gone ≡ replicate nodes 0
+    → links ≡ length graph.links → hosts ≡ graph.hosts → view_of k ≡ first_view graph
+first_known graph k links hosts others nodes members live reports doomed announced dropped done gone all few = λ i. record {
   members = λ n. (ap (λ (xs : List Bool). has xs n) members ∙ first_ones hosts others n ∙ ap (λ (m : ℕ). nat_lt n m) few) i;
   live = λ n. (ap (λ (xs : List Bool). has xs n) live ∙ all_ones links n ∙ ap (λ (m : ℕ). nat_lt n m) all) i;
   reports = λ n. (ap (λ (xs : List (Option Ts)). report_of xs n) reports ∙ one_value links n None) i;
   doomed = λ n. (ap (λ (xs : List Bool). has xs n) doomed ∙ one_value 64 n false) i;
   announced = announced i;
-  dropped = [];
+  dropped = dropped i;
+  done = λ n. (ap (λ (xs : List ℕ). count_of xs n) done ∙ one_value 64 n 0) i;
+  gone = λ n. (ap (λ (xs : List ℕ). count_of xs n) gone ∙ one_value nodes n 0) i;
 }
 
 pub set_report : (reports : List (Option Ts)) (link : LinkId) (value : Ts) → link.0 < length reports
@@ -91,26 +93,22 @@ report_known k reports link value is = ap (λ (r : ℕ → Option Ts). record (v
     pick true = refl
     pick false = refl
 
-pub doom_known : (graph : Graph) (k : Controller) (doomed : List Bool) → has doomed ≡ (after_doom graph (view_of k)).doomed
-    → view_with k doomed k.announced ≡ after_doom graph (view_of k)
-doom_known graph k doomed is = ap (λ (d : ℕ → Bool). record (view_of k) { doomed = d }) is
+-- the three points of a decision, one after the other
+pub after_three : (graph : Graph) (v : View) (k one two three : Controller) → view_of k ≡ v → view_of one ≡ after_doom graph (view_of k)
+    → view_of two ≡ after_announce graph (view_of one) → view_of three ≡ after_drop graph (view_of two) → view_of three ≡ after_decision graph v
+after_three graph v k one two three known first second last =
+    last ∙ ap (after_drop graph) (second ∙ ap (after_announce graph) (first ∙ ap (after_doom graph) known))
 
-pub decision_known : (graph : Graph) (k : Controller) (doomed : List Bool) (news all : List Announced) → has doomed ≡ (after_doom graph (view_of k)).doomed
-    → news ≡ newly_announced graph (view_with k doomed k.announced) → all ≡ k.announced ++ news → view_with k doomed all ≡ after_decision graph (view_of k)
-decision_known graph k doomed news all is news_are all_are =
-    ap (λ (a : List Announced). view_with k doomed a) (all_are ∙ ap (λ (n : List Announced). k.announced ++ n) news_are)
-    ∙ ap (after_announce graph) (doom_known graph k doomed is)
-
-pub decides : (graph : Graph) (k : Controller) (doomed : List Bool) (d : Decision) (all : List Announced) → has doomed ≡ (after_doom graph (view_of k)).doomed
-    → d.announced ≡ newly_announced graph (view_with k doomed k.announced) → all ≡ k.announced ++ d.announced → d.dropped ≡ [] → d.put ≡ messages graph (view_with k doomed all)
-    → (v : View) → view_of k ≡ v → IsDecision graph v d
-decides graph k doomed d all is news_are all_are none put_is v known =
-    subst (λ (w : View). IsDecision graph w d) known
-    (record {
-      announced = news_are ∙ ap (newly_announced graph) (doom_known graph k doomed is);
-      dropped = none;
-      put = put_is ∙ ap (messages graph) (decision_known graph k doomed d.announced all is news_are all_are);
-    })
+pub decides : (graph : Graph) (v : View) (k one two three : Controller) (d : Decision) → view_of k ≡ v → view_of one ≡ after_doom graph (view_of k)
+    → view_of two ≡ after_announce graph (view_of one) → view_of three ≡ after_drop graph (view_of two) → d.announced ≡ newly_announced graph (view_of one)
+    → d.dropped ≡ newly_dead graph (view_of two) → d.put ≡ messages graph (view_of three) → IsDecision graph v d
+decides graph v k one two three d known first second last news dead put_is =
+    let doomed = first ∙ ap (after_doom graph) known in
+    record {
+      announced = news ∙ ap (newly_announced graph) doomed;
+      dropped = dead ∙ ap (newly_dead graph) (second ∙ ap (after_announce graph) doomed);
+      put = put_is ∙ ap (messages graph) (after_three graph v k one two three known first second last);
+    }
 
 -- the step of a decision
 pub step_is : (graph : Graph) (v : View) (d : Decision) (s : Step) → s ≡ quiet_step Ok → IsDecision graph v d

@@ -1,3 +1,5 @@
+pub mod CountLaws
+pub mod DeadLaws
 pub mod KeptLaws
 pub mod KnownLaws
 pub mod ListLaws

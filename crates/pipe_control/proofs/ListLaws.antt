@@ -18,6 +18,18 @@ pub turn_out : {A B : Type 0} (f : A → B) (p : A → Bool) (put : List B) (x :
     → put ++ map f (filter p (x ∷ xs)) ≡ put ++ map f (filter p xs)
 turn_out f p put x xs isnt = rw isnt refl
 
+pub pass_in : {A : Type 0} (p : A → Bool) (put : List A) (x : A) (xs : List A) → p x ≡ true → put ++ filter p (x ∷ xs) ≡ (put ++ x ∷ []) ++ filter p xs
+pass_in p put x xs is = rw is (sym (append_assoc put (x ∷ []) (filter p xs)))
+
+pub pass_out : {A : Type 0} (p : A → Bool) (put : List A) (x : A) (xs : List A) → p x ≡ false → put ++ filter p (x ∷ xs) ≡ put ++ filter p xs
+pass_out p put x xs isnt = rw isnt refl
+
+pub all_less : {A : Type 0} (p : A → Bool) (x : A) (xs : List A) → p x ≡ true → list_all p (x ∷ xs) ≡ list_all p xs
+all_less p x xs is = rw is refl
+
+pub none_all : {A : Type 0} (p : A → Bool) (x : A) (xs : List A) → p x ≡ false → list_all p (x ∷ xs) ≡ false
+none_all p x xs isnt = rw isnt refl
+
 -- what all that are due give, after what is put already; or nothing, where one of them can't
 abbrev pub going : {A B : Type 0} → (A → Bool) → (A → Bool) → (A → List B) → List B → List A → List B
 going due can gives put xs = if list_all can (filter due xs) then put ++ flat_map gives (filter due xs) else []

@@ -1,8 +1,6 @@
 -- Lemmas on the hosts that are announced, and on those that are told.
-use Rattle.std.proofs.Common.{◌≡◌, inl, inr, ℕ, ◌+◌, ◌-◌, ◌<◌, ◌==◌, nat_lt, Bool, true, false, ◌&&◌, if◌then◌else◌, List, [], ◌∷◌, ◌++◌, length, map, filter, Option, None, Some, is_some, refl, sym, ap, ◌∙◌, true≢false}
+use Rattle.std.proofs.Common.{◌≡◌, ℕ, ◌+◌, ◌-◌, ◌<◌, Bool, true, false, ◌&&◌, if◌then◌else◌, List, [], ◌∷◌, ◌++◌, map, Option, None, Some, is_some, refl, sym, ap, ◌∙◌, true≢false}
 use Rattle.std.specs.List.{range_with_len}
-use Rattle.std.proofs.lemmas.Bool.{lt-ltb}
-use Rattle.std.proofs.lemmas.Bool.Decides.{eqb_tells}
 use Rattle.pipe_base.specs.declared.control.Announced.{Announced}
 use Rattle.pipe_base.specs.declared.name.HostId.{HostId}
 use Rattle.pipe_base.specs.declared.name.Ts.{Ts}
@@ -10,7 +8,7 @@ use Rattle.pipe_base.specs.Cut.{is_cut}
 use Rattle.pipe_base.specs.Graph.{Graph}
 use Rattle.pipe_control.specs.Known.{leaving_time}
 use Rattle.pipe_control.proofs.ListLaws.{from_next, going, going_none, going_past, going_with}
-use Rattle.pipe_model.specs.Decision.{all_hosts, can_go, host_id, is_behind, notice, notices, time_at, with_time}
+use Rattle.pipe_model.specs.Decision.{can_go, host_id, time_at, with_time}
 use Rattle.pipe_model.specs.View.{View, intact, is_due, is_kept}
 
 -- the hosts from a number on
@@ -59,30 +57,3 @@ pub told_past : (graph : Graph) (v : View) (news : List Announced) (n : ℕ) →
 told_past graph v news n lt due =
     ap (told graph v news) (from_next host_id n graph.hosts lt)
     ∙ going_past (λ h. is_due v h.0) (λ h. can_go graph v h.0) (λ h. with_time h (time_at graph v h.0)) news (host_id n) (hosts_from graph (n + 1)) due
-
--- where somebody is announced, the kept hosts are behind
-pub behind : (v : View) (host : ℕ) (kept : Bool) → 0 < length v.announced → is_kept v host ≡ kept → is_behind v host ≡ kept
-behind v host kept some is = ap (λ (t : Bool). t && nat_lt 0 (length v.announced)) is ∙ ap (λ (t : Bool). kept && t) (lt-ltb 0 (length v.announced) some) ∙ pick kept
-  where
-    pick : (b : Bool) → (b && true) ≡ b
-    pick true = refl
-    pick false = refl
-
-none_passes : {A : Type 0} (p : A → Bool) → ((x : A) → p x ≡ false) → (xs : List A) → filter p xs ≡ []
-none_passes p none [] = refl
-none_passes p none (x ∷ xs) = rw (none x) (none_passes p none xs)
-
--- where nobody is announced, nobody is told
-pub no_notices : (graph : Graph) (v : View) → (length v.announced == 0) ≡ true → notices graph v ≡ []
-no_notices graph v is =
-    ap (map (notice v)) (none_passes (λ (h : HostId). is_behind v h.0) (λ h. ap (λ (n : ℕ). is_kept v h.0 && nat_lt 0 n) empty ∙ pick (is_kept v h.0)) (all_hosts graph))
-  where
-    empty : length v.announced ≡ 0
-    empty = elim (eqb_tells (length v.announced) 0) [
-      | inl same ↦ same.1
-      | inr other ↦ absurd (true≢false (sym is ∙ other.0))
-    ]
-
-    pick : (b : Bool) → (b && false) ≡ false
-    pick true = refl
-    pick false = refl

@@ -1,23 +1,24 @@
 // What the controller knows, and its decisions.
-ghost use Rattle.std.specs.Prelude.{◌≡◌, ◌++◌, ℕ, length, IfOk, OnErr, OnOk};
+ghost use Rattle.std.specs.Prelude.{◌≡◌, IfOk, OnErr, OnOk};
 ghost use Rattle.pipe_base.specs.Graph.{Graph};
-ghost use Rattle.pipe_control.specs.Known.{Fits, IsChange, IsDecision, IsSized, Stands, reports_with, view_of};
+ghost use Rattle.pipe_control.specs.Known.{Fits, IsChange, IsDecision, IsSized, Stands};
 ghost use Rattle.pipe_model.specs.Controller.{decision};
-ghost use Rattle.pipe_model.specs.Decision.{after_decision, after_doom};
+ghost use Rattle.pipe_model.specs.Decision.{after_decision};
 ghost use Rattle.pipe_model.specs.View.{View, after_message, first_view};
-ghost use Rattle.pipe_topo.specs.Reports.{report_of};
-ghost use Rattle.pipe_topo.specs.Sets.{has};
 
+use crate::counts::Counts;
+use crate::heard::{note_done, note_gone, note_report};
+use crate::lists::{copy_announced, copy_links};
 use pipe_base::{
     AddressedList, Announced, AnnouncedList, Control, KeptStep, LinkId, LinkList, List, NoMemory,
-    Step, Ts,
+    Step,
 };
-use pipe_failtime::doomed;
 use pipe_topo::{HostSet, LinkSet, Reports, Topology};
 use std::alloc::Global;
 
-/// Who takes part, which links count, what was reported of them, who must go and who was announced. Contracts speak of
-/// any view for which it stands.
+/// Who takes part, which links count, what was reported of them, who must go, who was announced, which links were
+/// dropped, and how much of the announced and of the dropped each node said that it knows. Contracts speak of any view
+/// for which it stands.
 #[derive(Drop)]
 pub struct Controller {
     pub(crate) alloc: Global,
@@ -25,8 +26,11 @@ pub struct Controller {
     pub(crate) members: HostSet,
     pub(crate) live: LinkSet,
     pub(crate) reports: Reports,
-    doomed: HostSet,
+    pub(crate) doomed: HostSet,
     pub(crate) announced: AnnouncedList,
+    pub(crate) dropped: LinkList,
+    pub(crate) done: Counts,
+    pub(crate) gone: Counts,
 }
 
 /// What the controller decided: hosts that it announces, links that it drops, and messages that it puts.
@@ -37,15 +41,14 @@ pub struct Decision {
     pub put: AddressedList,
 }
 
-/// What a decision changes of what the controller knows.
+/// What a decision changes: the controller as it will be.
 #[derive(Drop)]
 pub struct Change {
-    doomed: HostSet,
-    announced: AnnouncedList,
+    next: Controller,
 }
 
 impl Controller {
-    /// All hosts take part, all links are live, and nothing was reported.
+    /// All hosts take part, all links are live, nothing was reported, and nothing was said.
     pub fn new(alloc: Global, topology: &Topology) -> Result<Controller, NoMemory>
         ensures { IfOk result (Stands topology.now (first_view topology.now)) }
     {
@@ -58,17 +61,36 @@ impl Controller {
             reports: Reports::none(alloc, links)?,
             doomed: HostSet::none(),
             announced: List::new(alloc),
+            dropped: List::new(alloc),
+            done: Counts::none(alloc, 64)?,
+            gone: Counts::none(alloc, topology.nodes())?,
         })
     }
 
-    /// Takes a message to the controller. The first report of a live link counts; nothing else is told yet. Takes no
-    /// memory.
+    /// Takes a message to the controller. The first report of a live link counts; of the counts of a member that noted
+    /// announced hosts, and of a node that knows dropped links, the greatest counts. What can't be is ignored: a count
+    /// greater than the list, a sender that is none, and a message to a node. Takes no memory.
     pub fn take(&mut self, control: &Control)
         requires { IsSized self.old }
-        ensures { (graph : Graph) (v : View) → Stands graph v self.old → Stands graph (after_message control.now v) self.new }
+        ensures { (graph : Graph) (v : View) → Stands graph v self.old → Stands graph (after_message graph control.now v) self.new }
     {
-        if let Control::Down { link, value } = control {
-            note(self.links, &self.live, &mut self.reports, *link, *value);
+        match control {
+            Control::Down { link, value } => {
+                note_report(self.links, &self.live, &mut self.reports, *link, *value);
+            }
+            Control::Done { host, count } => {
+                note_done(
+                    &self.members,
+                    self.announced.len(),
+                    &mut self.done,
+                    *host,
+                    *count,
+                );
+            }
+            Control::Gone { node, count } => {
+                note_gone(self.dropped.len(), &mut self.gone, *node, *count);
+            }
+            _ => {}
         }
     }
 
@@ -78,16 +100,17 @@ impl Controller {
         ensures decision { IfOk result (λ done. (v : View) → Stands topology.now v self.now → IsDecision topology.now v done.0) }
         ensures change { IfOk result (λ done. (v : View) → Stands topology.now v self.now → IsChange topology.now v done.1) }
     {
-        let doomed = self.doomed_now(topology)?;
-        let news = self.news(topology, &doomed)?;
-        let announced = self.announced_with(&news)?;
-        let put = self.messages(topology, &doomed, &announced)?;
+        let mut next = self.try_clone()?;
+        next.doom(topology)?;
+        let announced = next.announce(topology)?;
+        let dropped = next.drop_dead(topology)?;
+        let put = next.messages(topology)?;
         let decision = Decision {
-            announced: news,
-            dropped: List::new(self.alloc),
+            announced,
+            dropped,
             put,
         };
-        Ok((decision, Change { doomed, announced }))
+        Ok((decision, Change { next }))
     }
 
     /// Works out a decision as a step, and what it changes. Nothing changes.
@@ -109,8 +132,7 @@ impl Controller {
     pub fn follow(&mut self, change: Change)
         ensures { (graph : Graph) (v : View) → Stands graph v self.old → IsChange graph v change → Stands graph (after_decision graph v) self.new }
     {
-        self.doomed = change.doomed;
-        self.announced = change.announced;
+        *self = change.next;
     }
 
     /// Decides. Nothing changes where there is no memory.
@@ -132,6 +154,13 @@ impl Controller {
         self.announced.as_slice()
     }
 
+    /// The dropped links, in the order in which they were dropped.
+    pub fn dropped(&self) -> &[LinkId]
+        ensures { (graph : Graph) (v : View) → Stands graph v self.now → result.now ≡ v.dropped }
+    {
+        self.dropped.as_slice()
+    }
+
     pub fn try_clone(&self) -> Result<Controller, NoMemory>
         ensures { IfOk result (λ copy. copy ≡ self.now) }
     {
@@ -143,48 +172,9 @@ impl Controller {
             reports: self.reports.try_clone()?,
             doomed: self.doomed,
             announced: copy_announced(&self.announced)?,
+            dropped: copy_links(&self.dropped)?,
+            done: self.done.try_clone()?,
+            gone: self.gone.try_clone()?,
         })
     }
-
-    // The hosts that must go by the reports so far.
-    fn doomed_now(&self, topology: &Topology) -> Result<HostSet, NoMemory>
-        requires { Fits topology.now self.now }
-        ensures { IfOk result (λ set. has set ≡ (after_doom topology.now (view_of self.now)).doomed) }
-    {
-        doomed(
-            self.alloc,
-            topology,
-            &self.members,
-            &self.live,
-            &self.reports,
-            &self.doomed,
-        )
-    }
-
-    // All that are announced, with these new ones.
-    fn announced_with(&self, news: &AnnouncedList) -> Result<AnnouncedList, NoMemory>
-        ensures { IfOk result (λ list. list ≡ self.now.announced ++ news.now) }
-    {
-        let mut all = copy_announced(&self.announced)?.into_vec();
-        all.extend_from_slice(news.as_slice())?;
-        Ok(List::from_vec(all))
-    }
-}
-
-// Keeps a report, where it is the first of a live link.
-fn note(links: u16, live: &LinkSet, reports: &mut Reports, link: LinkId, value: Ts)
-    requires live { length live.now ≡ links }
-    requires reports { length reports.old ≡ links }
-    ensures size { length reports.new ≡ length reports.old }
-    ensures value { report_of reports.new ≡ reports_with (has live.now) link value (report_of reports.old) }
-{
-    if link.0 < links && live.has(link) && reports.value(link).is_none() {
-        reports.set(link, value);
-    }
-}
-
-pub(crate) fn copy_announced(list: &AnnouncedList) -> Result<AnnouncedList, NoMemory>
-    ensures { IfOk result (λ copy. copy ≡ list.now) }
-{
-    Ok(list.clone()?)
 }

@@ -22,6 +22,13 @@ fn is_announced(announced: &AnnouncedList, node: NodeId) -> bool
         .any(|entry| entry.host.0 == node.0)
 }
 
+// The node is a member that is not doomed.
+pub fn is_kept(members: &HostSet, doomed: &HostSet, node: NodeId) -> bool
+    ensures { result ≡ (has members.now node.0 && not (has doomed.now node.0)) }
+{
+    members.has_node(node) && !doomed.has_node(node)
+}
+
 // The members that are not doomed.
 #[tactic(auto, using(crate::proofs::KeptLaws::kept_in, crate::proofs::KeptLaws::kept_out))]
 pub fn kept(members: &HostSet, doomed: &HostSet) -> HostSet

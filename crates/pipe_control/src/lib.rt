@@ -1,9 +1,14 @@
-//! The controller: it gathers reports of links that went down, decides which hosts have failed, and tells the others.
+//! The controller: it gathers what nodes tell it, decides which hosts have failed and which links are dropped, and tells
+//! the others.
 #![tactic(auto)]
 
 mod announce;
 mod controller;
+mod counts;
+mod dead;
 mod due;
+mod heard;
+mod lists;
 mod messages;
 
 pub use controller::{Change, Controller, Decision};

@@ -1,90 +1,91 @@
 // What the controller puts after a decision.
 ghost use Rattle.std.specs.Prelude.{◌≡◌, ◌++◌, ◌<◌, length, IfOk, OnOk};
-ghost use Rattle.pipe_base.specs.declared.control.Control.TheVariants.{Notice};
+ghost use Rattle.pipe_base.specs.declared.control.Control.TheVariants.{DropLinks, Notice};
 ghost use Rattle.pipe_base.specs.declared.control.To.TheVariants.{Node};
-ghost use Rattle.pipe_control.specs.Known.{Fits, view_with};
-ghost use Rattle.pipe_model.specs.Decision.{freeze, freezes, is_frozen, messages, notices};
+ghost use Rattle.pipe_control.specs.Known.{Fits, view_of};
+ghost use Rattle.pipe_model.specs.Decision.{drops, freeze, freezes, is_behind, is_frozen, lags, messages, notices};
 
 use crate::Controller;
-use crate::controller::copy_announced;
-use crate::due::{is_due, kept};
+use crate::due::{is_due, is_kept};
+use crate::lists::{copy_announced, copy_links};
 use pipe_base::{
-    Addressed, AddressedList, AnnouncedList, Control, HostId, LinkId, List, NoMemory, NodeId, To,
+    Addressed, AddressedList, AnnouncedList, Control, LinkId, LinkList, List, NoMemory, NodeId, To,
 };
-use pipe_topo::{HostSet, Topology};
+use pipe_topo::Topology;
 
 impl Controller {
-    // The freezes in the order of their links, and then the notices in the order of their hosts.
-    pub(crate) fn messages(
-        &self,
-        topology: &Topology,
-        doomed: &HostSet,
-        announced: &AnnouncedList,
-    ) -> Result<AddressedList, NoMemory>
+    // The freezes in the order of their links, the notices in the order of their hosts, and then the dropped links in the
+    // order of their nodes.
+    pub(crate) fn messages(&self, topology: &Topology) -> Result<AddressedList, NoMemory>
         requires { Fits topology.now self.now }
-        ensures { IfOk result (λ put. put ≡ messages topology.now (view_with self.now doomed.now announced.now)) }
+        ensures { IfOk result (λ put. put ≡ messages topology.now (view_of self.now)) }
     {
-        let mut put = self.freezes(topology, doomed, announced)?;
-        if announced.is_empty() {
-            return Ok(put);
-        }
-        self.put_notices(topology, doomed, announced, &mut put)?;
+        let mut put = List::new(self.alloc);
+        self.put_freezes(topology, &mut put)?;
+        self.put_notices(topology, &mut put)?;
+        self.put_drops(topology, &mut put)?;
         Ok(put)
     }
 
     // The heads of the intact links out of hosts that are due take these down.
-    fn freezes(
-        &self,
-        topology: &Topology,
-        doomed: &HostSet,
-        announced: &AnnouncedList,
-    ) -> Result<AddressedList, NoMemory>
+    fn put_freezes(&self, topology: &Topology, put: &mut AddressedList) -> Result<(), NoMemory>
         requires { Fits topology.now self.now }
-        ensures { IfOk result (λ put. put ≡ freezes topology.now (view_with self.now doomed.now announced.now)) }
+        ensures { OnOk result (put.new ≡ put.old ++ freezes topology.now (view_of self.now)) }
     {
-        let mut put = List::new(self.alloc);
         for link in 0..topology.links() {
-            if self.is_frozen(topology, doomed, announced, LinkId(link)) {
+            if self.is_frozen(topology, LinkId(link)) {
                 put.push(freeze(topology, LinkId(link)))?;
             }
         }
-        Ok(put)
+        Ok(())
     }
 
-    fn is_frozen(
-        &self,
-        topology: &Topology,
-        doomed: &HostSet,
-        announced: &AnnouncedList,
-        link: LinkId,
-    ) -> bool
+    fn is_frozen(&self, topology: &Topology, link: LinkId) -> bool
         requires fits { Fits topology.now self.now }
         requires link { link.0 < length topology.now.links }
-        ensures { result ≡ is_frozen topology.now (view_with self.now doomed.now announced.now) link }
+        ensures { result ≡ is_frozen topology.now (view_of self.now) link }
     {
         self.live.has(link)
             && self.reports.value(link).is_none()
-            && is_due(doomed, announced, topology.tail(link))
+            && is_due(&self.doomed, &self.announced, topology.tail(link))
     }
 
-    // Each kept host is told all that are announced.
-    fn put_notices(
-        &self,
-        topology: &Topology,
-        doomed: &HostSet,
-        announced: &AnnouncedList,
-        put: &mut AddressedList,
-    ) -> Result<(), NoMemory>
-        requires { 0 < length announced.now }
-        ensures { OnOk result (put.new ≡ put.old ++ notices topology.now (view_with self.now doomed.now announced.now)) }
+    // Each kept host that has not said that it noted all is told all that are announced.
+    fn put_notices(&self, topology: &Topology, put: &mut AddressedList) -> Result<(), NoMemory>
+        ensures { OnOk result (put.new ≡ put.old ++ notices topology.now (view_of self.now)) }
     {
-        let kept = kept(&self.members, doomed);
         for host in 0..topology.hosts() {
-            if kept.has(HostId(host)) {
-                put.push(notice(host, announced)?)?;
+            if self.is_behind(NodeId(host)) {
+                put.push(notice(host, &self.announced)?)?;
             }
         }
         Ok(())
+    }
+
+    fn is_behind(&self, host: NodeId) -> bool
+        ensures { result ≡ is_behind (view_of self.now) host.0 }
+    {
+        is_kept(&self.members, &self.doomed, host)
+            && usize::from(self.done.of(host.0)) < self.announced.len()
+    }
+
+    // Each half and each kept host that has not said that it knows all is told all dropped links.
+    fn put_drops(&self, topology: &Topology, put: &mut AddressedList) -> Result<(), NoMemory>
+        ensures { OnOk result (put.new ≡ put.old ++ drops topology.now (view_of self.now)) }
+    {
+        for node in 0..topology.nodes() {
+            if self.lags(topology, NodeId(node)) {
+                put.push(drop_links(NodeId(node), &self.dropped)?)?;
+            }
+        }
+        Ok(())
+    }
+
+    fn lags(&self, topology: &Topology, node: NodeId) -> bool
+        ensures { result ≡ lags topology.now (view_of self.now) node.0 }
+    {
+        (topology.is_half(node) || is_kept(&self.members, &self.doomed, node))
+            && usize::from(self.gone.of(node.0)) < self.dropped.len()
     }
 }
 
@@ -106,6 +107,17 @@ fn notice(host: u16, announced: &AnnouncedList) -> Result<Addressed, NoMemory>
         to: To::Node(NodeId(host)),
         control: Control::Notice {
             list: copy_announced(announced)?,
+        },
+    })
+}
+
+fn drop_links(node: NodeId, dropped: &LinkList) -> Result<Addressed, NoMemory>
+    ensures { IfOk result (λ a. a ≡ record { to = Node node; control = DropLinks dropped.now }) }
+{
+    Ok(Addressed {
+        to: To::Node(node),
+        control: Control::DropLinks {
+            links: copy_links(dropped)?,
         },
     })
 }

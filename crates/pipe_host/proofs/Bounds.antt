@@ -4,6 +4,7 @@ use Rattle.std.proofs.lemmas.Bool.Decides.{nat_tests}
 use Rattle.std.proofs.lemmas.List.Elements.{All-append, All-weaker}
 use Rattle.pipe_base.specs.declared.control.Announced.{Announced}
 use Rattle.pipe_base.specs.declared.message.Entry.{Entry}
+use Rattle.pipe_base.specs.declared.message.Key.{Key}
 use Rattle.pipe_base.specs.declared.message.Service.{Service}
 use Rattle.pipe_base.specs.declared.message.Service.TheVariants.{BestEffort, Reliable}
 use Rattle.pipe_base.specs.declared.name.HostId.{HostId}
@@ -23,12 +24,13 @@ use Rattle.pipe_model.specs.Logged.{logged, passed_in, standing}
 use Rattle.pipe_model.specs.Moments.{barrier_at, noted_hosts}
 use Rattle.pipe_model.specs.OwnOutcome.{clock_outcome, first_failed, is_window_full, send_outcome, stamped, where_ok}
 use Rattle.pipe_model.specs.Sender.{sender_calls}
-use Rattle.pipe_reorder.proofs.Walks.{let_out, out-below}
+use Rattle.pipe_reorder.specs.Buffer.{let_out}
+use Rattle.pipe_reorder.proofs.Walks.{out-below}
 
 -- what a barrier within the type lets out is below the end of the type
-pub out_below_end : (b : ℕ) (s : Service) (failed : List Announced) (ms : Messages) → b ≤ 2 ^ 64 - 1 → AreBelow (2 ^ 64 - 1) (let_out s failed b ms)
-out_below_end b s failed ms within =
-    All-weaker (λ (e : Service × Entry). e.1.key.ts.0 < b) (λ (e : Service × Entry). e.1.key.ts.0 < 2 ^ 64 - 1) (λ e lt. omega (arith, lt, within)) (let_out s failed b ms) (out-below s failed b ms)
+pub out_below_end : (b : ℕ) (s : Service) (failed : List Announced) (stones : List Key) (ms : Messages) → b ≤ 2 ^ 64 - 1 → AreBelow (2 ^ 64 - 1) (let_out s failed stones b ms)
+out_below_end b s failed stones ms within =
+    All-weaker (λ (e : Service × Entry). e.1.key.ts.0 < b) (λ (e : Service × Entry). e.1.key.ts.0 < 2 ^ 64 - 1) (λ e lt. omega (arith, lt, within)) (let_out s failed stones b ms) (out-below s failed stones b ms)
 
 -- what is below a barrier is below the end of the type, as the barrier is within it
 pub below_end : (b : ℕ) (s : Service) (ms : Messages) → b ≤ 2 ^ 64 - 1 → AreBelow (2 ^ 64 - 1) (logged_of s (below_barrier b ms))

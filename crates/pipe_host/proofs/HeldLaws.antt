@@ -2,7 +2,7 @@
 use Rattle.std.proofs.Common.{◌≡◌, ◌⊎◌, ℕ, ◌≤◌, ◌==◌, ◌&&◌, not, nat_le, Bool, true, false, List, [], ◌∷◌, if◌then◌else◌, Option, None, Some, refl, sym, subst, ap, ◌∙◌, inl, inr}
 use Rattle.std.specs.Prelude.{nat_lt}
 use Rattle.std.specs.Option.{option_or}
-use Rattle.std.proofs.lemmas.Bool.{ltb-false}
+use Rattle.std.proofs.lemmas.Bool.{ltb-false, not_from_false}
 use Rattle.pipe_base.specs.declared.control.Announced.{Announced}
 use Rattle.pipe_base.specs.declared.message.Key.{Key}
 use Rattle.pipe_base.specs.declared.message.Service.{Service}
@@ -17,91 +17,113 @@ use Rattle.pipe_base.specs.Failed.{is_from, is_void, time_of, without_void}
 use Rattle.pipe_base.specs.Fate.{fate_from, fate_of}
 use Rattle.pipe_base.specs.Fate as fates
 use Rattle.pipe_base.specs.Graph.{Graph, is_host}
-use Rattle.pipe_base.specs.Messages.{IsInOrder, Messages, from_barrier, has_key}
-use Rattle.pipe_base.proofs.KeyOrder.{order_with}
+use Rattle.pipe_base.specs.Messages.{IsInOrder, Messages, from_barrier, has_key, without_keys}
+use Rattle.pipe_base.proofs.KeyOrder.{order_filter, order_with}
 use Rattle.pipe_base.proofs.MessageLaws.{from_with, has_from}
 use Rattle.pipe_model.specs.declared.record.Record.{Record}
 use Rattle.pipe_model.specs.Fate.{fate_for, fate_in, held, with_held}
 use Rattle.pipe_model.specs.Got.{carries, got, gets_of, is_beacon, key_of, message_of}
 use Rattle.pipe_host.specs.declared.buffers.Buffers.{Buffers}
-use Rattle.pipe_reorder.specs.Buffer.{Buffer}
-use Rattle.pipe_reorder.proofs.VoidLaws.{has_standing, standing-with}
-use Rattle.pipe_host.specs.Buffers.{IsFresh, IsNew, buffer_of, fate_among, joined}
+use Rattle.pipe_reorder.specs.Buffer.{Buffer, has_tombstone}
+use Rattle.pipe_reorder.proofs.VoidLaws.{has_passing, has_standing, passing-with, standing-with}
+use Rattle.pipe_host.specs.Buffers.{IsFresh, IsNew, all_burying, buffer_of, fate_among, fate_by, joined}
+use Rattle.pipe_host.specs.Host.{kept}
 
--- what is kept of all messages that were ever held: those from the barrier on that are not void
-abbrev pub kept : ℕ → List Announced → Messages → Messages
-kept b failed ms = from_barrier b (without_void failed ms)
+-- a test of keys that a buffer answers is the one of the rules, for keys that the barrier has not passed
+abbrev pub Agree : ℕ → (among was : Key → Bool) → Type 0
+Agree b among was = (k : Key) → b ≤ k.ts.0 → among k ≡ was k
 
--- a message that is neither late nor void has the fate that all messages ever held give it
-among_kept : (b : ℕ) (failed : List Announced) (ms : Messages) (k : Key) → b ≤ k.ts.0 → is_void failed k ≡ false → fates.fate_among (kept b failed ms) k ≡ fates.fate_among ms k
-among_kept b failed ms k low stands =
-    ap (λ (h : Bool). if h then Repeat else Held) (has_from b k (without_void failed ms) low ∙ has_standing failed k ms stands)
+-- a message that is neither late nor void nor taken back has the fate that all messages ever held give it
+among_kept : (t : Bool) (b : ℕ) (failed : List Announced) (was : Key → Bool) (ms : Messages) (k : Key) → b ≤ k.ts.0 → is_void failed k ≡ false → was k ≡ t
+    → fates.fate_among t (kept b failed was ms) k ≡ fates.fate_among t ms k
+among_kept true b failed was ms k low stands is = refl
+among_kept false b failed was ms k low stands is =
+    ap (λ (h : Bool). if h then Repeat else Held)
+    (has_from b k (without_keys was (without_void failed ms)) low
+    ∙ has_passing (λ n. not (was n)) k (without_void failed ms) (not_from_false (was k) is)
+    ∙ has_standing failed k ms stands)
 
-discard_kept : (void : Bool) (time : Ts) (b : ℕ) (failed : List Announced) (ms : Messages) (k : Key) → b ≤ k.ts.0 → is_void failed k ≡ void
-    → (if void then Discarded time else fates.fate_among (kept b failed ms) k) ≡ (if void then Discarded time else fates.fate_among ms k)
-discard_kept true time b failed ms k low is = refl
-discard_kept false time b failed ms k low is = among_kept b failed ms k low is
+discard_kept : (void : Bool) (time : Ts) (b : ℕ) (failed : List Announced) (was : Key → Bool) (ms : Messages) (k : Key) → b ≤ k.ts.0 → is_void failed k ≡ void
+    → (if void then Discarded time else fates.fate_among (was k) (kept b failed was ms) k) ≡ (if void then Discarded time else fates.fate_among (was k) ms k)
+discard_kept true time b failed was ms k low is = refl
+discard_kept false time b failed was ms k low is = among_kept (was k) b failed was ms k low is refl
 
-void_kept : (t : Option Ts) (b : ℕ) (failed : List Announced) (ms : Messages) (k : Key) → b ≤ k.ts.0 → time_of k.src.0 failed ≡ t → fate_from t (kept b failed ms) k ≡ fate_from t ms k
-void_kept None b failed ms k low is = among_kept b failed ms k low (ap (λ (o : Option Ts). is_from o k.ts) is)
-void_kept (Some time) b failed ms k low is =
-    discard_kept (nat_le time.0 k.ts.0) time b failed ms k low (ap (λ (o : Option Ts). is_from o k.ts) is)
+void_kept : (t : Option Ts) (b : ℕ) (failed : List Announced) (was : Key → Bool) (ms : Messages) (k : Key) → b ≤ k.ts.0 → time_of k.src.0 failed ≡ t
+    → fate_from t (was k) (kept b failed was ms) k ≡ fate_from t (was k) ms k
+void_kept None b failed was ms k low is = among_kept (was k) b failed was ms k low (ap (λ (o : Option Ts). is_from o k.ts) is) refl
+void_kept (Some time) b failed was ms k low is =
+    discard_kept (nat_le time.0 k.ts.0) time b failed was ms k low (ap (λ (o : Option Ts). is_from o k.ts) is)
 
-late_kept : (late : Bool) (b : ℕ) (failed : List Announced) (ms : Messages) (k : Key) → nat_lt k.ts.0 b ≡ late
-    → (if late then Late (record { 0 = b }) else fate_from (time_of k.src.0 failed) (kept b failed ms) k) ≡ (if late then Late (record { 0 = b }) else fate_from (time_of k.src.0 failed) ms k)
-late_kept true b failed ms k is = refl
-late_kept false b failed ms k is = void_kept (time_of k.src.0 failed) b failed ms k (ltb-false k.ts.0 b is) refl
+late_kept : (late : Bool) (b : ℕ) (failed : List Announced) (among was : Key → Bool) (ms : Messages) (k : Key) → Agree b among was → nat_lt k.ts.0 b ≡ late
+    → (if late then Late (record { 0 = b }) else fate_from (time_of k.src.0 failed) (among k) (kept b failed was ms) k)
+    ≡ (if late then Late (record { 0 = b }) else fate_from (time_of k.src.0 failed) (was k) ms k)
+late_kept true b failed among was ms k agree is = refl
+late_kept false b failed among was ms k agree is =
+    let low : b ≤ k.ts.0 = ltb-false k.ts.0 b is in
+    ap (λ (t : Bool). fate_from (time_of k.src.0 failed) t (kept b failed was ms) k) (agree k low) ∙ void_kept (time_of k.src.0 failed) b failed was ms k low refl
 
-pub fate_kept : (b : ℕ) (failed : List Announced) (ms : Messages) (m : Option Packet) → fate_for b failed (kept b failed ms) m ≡ fate_for b failed ms m
-fate_kept b failed ms None = refl
-fate_kept b failed ms (Some p) = ap (λ (f : Fate). Some f) (late_kept (nat_lt p.ts.0 b) b failed ms (key_of p) refl)
+pub fate_kept : (b : ℕ) (failed : List Announced) (among was : Key → Bool) (ms : Messages) (m : Option Packet) → Agree b among was
+    → fate_for b failed among (kept b failed was ms) m ≡ fate_for b failed was ms m
+fate_kept b failed among was ms None agree = refl
+fate_kept b failed among was ms (Some p) agree = ap (λ (f : Fate). Some f) (late_kept (nat_lt p.ts.0 b) b failed among was ms (key_of p) agree refl)
 
--- ---- a message with the fate held is neither late nor void, and no message has its key
+-- ---- a message with the fate held is neither late nor void nor taken back, and no message has its key
 
-pub record IsHeld (b : ℕ) (failed : List Announced) (ms : Messages) (k : Key) : Type 0 where
+pub record IsHeld (b : ℕ) (failed : List Announced) (was : Key → Bool) (ms : Messages) (k : Key) : Type 0 where
   pub from : b ≤ k.ts.0
   pub stands : is_void failed k ≡ false
+  pub wanted : was k ≡ false
   pub new : has_key k ms ≡ false
 
-new_by : (has : Bool) → (if has then Repeat else Held) ≡ Held → has ≡ false
-new_by true is = cc
-new_by false is = refl
+new_by : (recalled has : Bool) → (if recalled then Recalled else if has then Repeat else Held) ≡ Held → (recalled ≡ false) × (has ≡ false)
+new_by true has is = cc
+new_by false true is = cc
+new_by false false is = (refl, refl)
 
-discarded_by : (void : Bool) (time : Ts) (b : ℕ) (failed : List Announced) (ms : Messages) (k : Key) → b ≤ k.ts.0 → is_void failed k ≡ void
-    → (if void then Discarded time else fates.fate_among ms k) ≡ Held → IsHeld b failed ms k
-discarded_by true time b failed ms k low is held = cc
-discarded_by false time b failed ms k low is held = record { from = low; stands = is; new = new_by (has_key k ms) held }
+among_by : (b : ℕ) (failed : List Announced) (was : Key → Bool) (ms : Messages) (k : Key) → b ≤ k.ts.0 → is_void failed k ≡ false → fates.fate_among (was k) ms k ≡ Held
+    → IsHeld b failed was ms k
+among_by b failed was ms k low stands held =
+    let new = new_by (was k) (has_key k ms) held in
+    record { from = low; stands = stands; wanted = new.0; new = new.1 }
 
-void_by : (t : Option Ts) (b : ℕ) (failed : List Announced) (ms : Messages) (k : Key) → b ≤ k.ts.0 → time_of k.src.0 failed ≡ t → fate_from t ms k ≡ Held → IsHeld b failed ms k
-void_by None b failed ms k low is held =
-    record { from = low; stands = ap (λ (o : Option Ts). is_from o k.ts) is; new = new_by (has_key k ms) held }
-void_by (Some time) b failed ms k low is held =
-    discarded_by (nat_le time.0 k.ts.0) time b failed ms k low (ap (λ (o : Option Ts). is_from o k.ts) is) held
+discarded_by : (void : Bool) (time : Ts) (b : ℕ) (failed : List Announced) (was : Key → Bool) (ms : Messages) (k : Key) → b ≤ k.ts.0 → is_void failed k ≡ void
+    → (if void then Discarded time else fates.fate_among (was k) ms k) ≡ Held → IsHeld b failed was ms k
+discarded_by true time b failed was ms k low is held = cc
+discarded_by false time b failed was ms k low is held = among_by b failed was ms k low is held
 
-late_by : (late : Bool) (b : ℕ) (failed : List Announced) (ms : Messages) (k : Key) → nat_lt k.ts.0 b ≡ late
-    → (if late then Late (record { 0 = b }) else fate_from (time_of k.src.0 failed) ms k) ≡ Held → IsHeld b failed ms k
-late_by true b failed ms k is held = cc
-late_by false b failed ms k is held = void_by (time_of k.src.0 failed) b failed ms k (ltb-false k.ts.0 b is) refl held
+void_by : (t : Option Ts) (b : ℕ) (failed : List Announced) (was : Key → Bool) (ms : Messages) (k : Key) → b ≤ k.ts.0 → time_of k.src.0 failed ≡ t
+    → fate_from t (was k) ms k ≡ Held → IsHeld b failed was ms k
+void_by None b failed was ms k low is held = among_by b failed was ms k low (ap (λ (o : Option Ts). is_from o k.ts) is) held
+void_by (Some time) b failed was ms k low is held =
+    discarded_by (nat_le time.0 k.ts.0) time b failed was ms k low (ap (λ (o : Option Ts). is_from o k.ts) is) held
 
-held_from : (b : ℕ) (failed : List Announced) (ms : Messages) (k : Key) → fate_of b (time_of k.src.0 failed) ms k ≡ Held → IsHeld b failed ms k
-held_from b failed ms k held = late_by (nat_lt k.ts.0 b) b failed ms k refl held
+late_by : (late : Bool) (b : ℕ) (failed : List Announced) (was : Key → Bool) (ms : Messages) (k : Key) → nat_lt k.ts.0 b ≡ late
+    → (if late then Late (record { 0 = b }) else fate_from (time_of k.src.0 failed) (was k) ms k) ≡ Held → IsHeld b failed was ms k
+late_by true b failed was ms k is held = cc
+late_by false b failed was ms k is held = void_by (time_of k.src.0 failed) b failed was ms k (ltb-false k.ts.0 b is) refl held
 
-keeps_by : (f : Fate) (b : ℕ) (failed : List Announced) (ms : Messages) (p : Packet) → IsInOrder ms → (f ≡ Held → IsHeld b failed ms (key_of p))
-    → with_held (Some f) (Some p) (kept b failed ms) ≡ kept b failed (with_held (Some f) (Some p) ms)
-keeps_by Held b failed ms p order is =
+held_from : (b : ℕ) (failed : List Announced) (was : Key → Bool) (ms : Messages) (k : Key) → fate_of b (time_of k.src.0 failed) (was k) ms k ≡ Held → IsHeld b failed was ms k
+held_from b failed was ms k held = late_by (nat_lt k.ts.0 b) b failed was ms k refl held
+
+keeps_by : (f : Fate) (b : ℕ) (failed : List Announced) (was : Key → Bool) (ms : Messages) (p : Packet) → IsInOrder ms → (f ≡ Held → IsHeld b failed was ms (key_of p))
+    → with_held (Some f) (Some p) (kept b failed was ms) ≡ kept b failed was (with_held (Some f) (Some p) ms)
+keeps_by Held b failed was ms p order is =
     let held = is refl in
-    sym (ap (from_barrier b) (standing-with failed (key_of p) p.body ms order held.stands) ∙ from_with b (key_of p) p.body (without_void failed ms) held.from)
-keeps_by Repeat b failed ms p order is = refl
-keeps_by (Late c) b failed ms p order is = refl
-keeps_by (Discarded t) b failed ms p order is = refl
-keeps_by Recalled b failed ms p order is = refl
+    sym (ap (λ (xs : Messages). from_barrier b (without_keys was xs)) (standing-with failed (key_of p) p.body ms order held.stands)
+    ∙ ap (from_barrier b)
+    (passing-with (λ n. not (was n)) (key_of p) p.body (without_void failed ms) (order_filter (λ m. not (is_void failed m.0)) ms order) (not_from_false (was (key_of p)) held.wanted))
+    ∙ from_with b (key_of p) p.body (without_keys was (without_void failed ms)) held.from)
+keeps_by Repeat b failed was ms p order is = refl
+keeps_by (Late c) b failed was ms p order is = refl
+keeps_by (Discarded t) b failed was ms p order is = refl
+keeps_by Recalled b failed was ms p order is = refl
 
 -- what is kept with a message is kept of all that was ever held with it
-pub held_kept : (b : ℕ) (failed : List Announced) (ms : Messages) (m : Option Packet) → IsInOrder ms
-    → with_held (fate_for b failed ms m) m (kept b failed ms) ≡ kept b failed (with_held (fate_for b failed ms m) m ms)
-held_kept b failed ms None order = refl
-held_kept b failed ms (Some p) order =
-    keeps_by (fate_of b (time_of p.src.0 failed) ms (key_of p)) b failed ms p order (held_from b failed ms (key_of p))
+pub held_kept : (b : ℕ) (failed : List Announced) (was : Key → Bool) (ms : Messages) (m : Option Packet) → IsInOrder ms
+    → with_held (fate_for b failed was ms m) m (kept b failed was ms) ≡ kept b failed was (with_held (fate_for b failed was ms m) m ms)
+held_kept b failed was ms None order = refl
+held_kept b failed was ms (Some p) order =
+    keeps_by (fate_of b (time_of p.src.0 failed) (was (key_of p)) ms (key_of p)) b failed was ms p order (held_from b failed was ms (key_of p))
 
 order_with_held : (f : Option Fate) (m : Option Packet) (ms : Messages) → IsInOrder ms → IsInOrder (with_held f m ms)
 order_with_held None m ms order = order
@@ -146,17 +168,19 @@ new_none (Some (Late b)) ms = tt
 new_none (Some (Discarded t)) ms = tt
 new_none (Some Recalled) ms = tt
 
-fresh_by : (f : Fate) (b : ℕ) (failed : List Announced) (ms : Messages) (p : Packet) → (f ≡ Held → IsHeld b failed ms (key_of p)) → IsNew (Some f) (Some p) ms
-fresh_by Held b failed ms p is = (is refl).new
-fresh_by Repeat b failed ms p is = tt
-fresh_by (Late c) b failed ms p is = tt
-fresh_by (Discarded t) b failed ms p is = tt
-fresh_by Recalled b failed ms p is = tt
+fresh_by : (f : Fate) (b : ℕ) (failed : List Announced) (was : Key → Bool) (ms : Messages) (p : Packet) → (f ≡ Held → IsHeld b failed was ms (key_of p))
+    → IsNew (Some f) (Some p) ms
+fresh_by Held b failed was ms p is = (is refl).new
+fresh_by Repeat b failed was ms p is = tt
+fresh_by (Late c) b failed was ms p is = tt
+fresh_by (Discarded t) b failed was ms p is = tt
+fresh_by Recalled b failed was ms p is = tt
 
 -- a message with the fate held is new
-pub new_for : (b : ℕ) (failed : List Announced) (ms : Messages) (m : Option Packet) → IsNew (fate_for b failed ms m) m ms
-new_for b failed ms None = tt
-new_for b failed ms (Some p) = fresh_by (fate_of b (time_of p.src.0 failed) ms (key_of p)) b failed ms p (held_from b failed ms (key_of p))
+pub new_for : (b : ℕ) (failed : List Announced) (was : Key → Bool) (ms : Messages) (m : Option Packet) → IsNew (fate_for b failed was ms m) m ms
+new_for b failed was ms None = tt
+new_for b failed was ms (Some p) =
+    fresh_by (fate_of b (time_of p.src.0 failed) (was (key_of p)) ms (key_of p)) b failed was ms p (held_from b failed was ms (key_of p))
 
 -- a packet carries a message of one service at most
 pub apart : (kind : PacketKind) → carries Reliable kind ≡ true → carries BestEffort kind ≡ false
@@ -186,7 +210,7 @@ not_carried service p is = rw is refl
 
 -- the fate of the message of one service
 abbrev pub fate_in_one : Service → Buffers → Option Packet → Option Fate
-fate_in_one service h m = fate_for (buffer_of service h).barrier (buffer_of service h).failed (buffer_of service h).messages (message_of service m)
+fate_in_one service h m = fate_by (buffer_of service h) (message_of service m)
 
 -- a packet carries no message of the service, or its fate is that of the one message that it carries
 abbrev Alike : Option Packet → Option Fate → Option Fate → Type 0
@@ -196,13 +220,12 @@ best_alike : (c : Bool) (h : Buffers) (p : Packet) → carries BestEffort p.kind
 best_alike false h p is = inl (not_carried BestEffort p is)
 best_alike true h p is =
     let reliable : Option Fate = fate_in_one Reliable h (Some p) in
-    let fate_for_best : Option Packet → Option Fate = fate_for h.best.barrier h.best.failed h.best.messages in
-    inr (ap (λ (o : Option Packet). option_or (fate_for_best o) reliable) (carried BestEffort p is) ∙ ap fate_for_best (sym (carried BestEffort p is)))
+    inr (ap (λ (o : Option Packet). option_or (fate_by h.best o) reliable) (carried BestEffort p is) ∙ ap (fate_by h.best) (sym (carried BestEffort p is)))
 
 reliable_alike : (c : Bool) (h : Buffers) (p : Packet) → carries Reliable p.kind ≡ c → Alike (message_of Reliable (Some p)) (fate_among h (Some p)) (fate_in_one Reliable h (Some p))
 reliable_alike false h p is = inl (not_carried Reliable p is)
 reliable_alike true h p is =
-    inr (ap (λ (o : Option Packet). option_or (fate_for h.best.barrier h.best.failed h.best.messages o) (fate_in_one Reliable h (Some p))) (not_carried BestEffort p (apart p.kind is)))
+    inr (ap (λ (o : Option Packet). option_or (fate_by h.best o) (fate_in_one Reliable h (Some p))) (not_carried BestEffort p (apart p.kind is)))
 
 alike : (service : Service) (h : Buffers) (p : Packet) → Alike (message_of service (Some p)) (fate_among h (Some p)) (fate_in_one service h (Some p))
 alike BestEffort h p = best_alike (carries BestEffort p.kind) h p refl
@@ -231,14 +254,19 @@ fresh h p m (inl none) service = subst (λ (o : Option Packet). IsNew (fate_amon
 fresh h p m (inr some) service =
     subst (λ (o : Option Packet). IsNew (fate_among h o) (message_of service (Some p)) (buffer_of service h).messages) (sym some)
     (same_new (fate_among h (Some p)) (fate_in_one service h (Some p)) (message_of service (Some p)) (buffer_of service h).messages (alike service h p)
-    (new_for (buffer_of service h).barrier (buffer_of service h).failed (buffer_of service h).messages (message_of service (Some p))))
+    (new_for (buffer_of service h).barrier (buffer_of service h).failed (has_tombstone (buffer_of service h).tombstones) (buffer_of service h).messages (message_of service (Some p))))
+
+-- a tombstone holds no message
+pub fresh_burying : (got : Option Packet) (f : Option Fate) (p : Packet) (h : Buffers) → IsFresh f p h → IsFresh f p (all_burying got h)
+fresh_burying got f p h new BestEffort = new BestEffort
+fresh_burying got f p h new Reliable = new Reliable
 
 -- the messages that are kept, with what joins them, are kept of all that were ever held with it
-pub joined_kept : (f : Option Fate) (o m : Option Packet) (b : ℕ) (failed : List Announced) (ms : Messages) → IsInOrder ms
-    → with_held f o (kept b failed ms) ≡ with_held (fate_for b failed (kept b failed ms) m) m (kept b failed ms)
-    → with_held f o (kept b failed ms) ≡ kept b failed (with_held (fate_for b failed ms m) m ms)
-joined_kept f o m b failed ms order is =
-    is ∙ ap (λ (g : Option Fate). with_held g m (kept b failed ms)) (fate_kept b failed ms m) ∙ held_kept b failed ms m order
+pub joined_kept : (f : Option Fate) (o m : Option Packet) (b : ℕ) (failed : List Announced) (among was : Key → Bool) (ms : Messages) → IsInOrder ms → Agree b among was
+    → with_held f o (kept b failed was ms) ≡ with_held (fate_for b failed among (kept b failed was ms) m) m (kept b failed was ms)
+    → with_held f o (kept b failed was ms) ≡ kept b failed was (with_held (fate_for b failed was ms m) m ms)
+joined_kept f o m b failed among was ms order agree is =
+    is ∙ ap (λ (g : Option Fate). with_held g m (kept b failed was ms)) (fate_kept b failed among was ms m agree) ∙ held_kept b failed was ms m order
 
 -- a packet that carries no message of the service leaves its buffer alone
 pub not_joined : (service : Service) (f : Option Fate) (p : Packet) (b : Buffer) → carries service p.kind ≡ false → joined service f p b ≡ b

@@ -3,3 +3,4 @@ pub mod HeldLaws
 pub mod HostSteps
 pub mod RecordLaws
 pub mod SendSteps
+pub mod StoneLaws

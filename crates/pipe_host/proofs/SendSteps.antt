@@ -1,5 +1,5 @@
 -- That what a host does with a send is what it owes.
-use Rattle.std.proofs.Common.{◌≡◌, ℕ, ◌+◌, ◌<◌, ◌≤◌, nat_le, Bool, true, List, [], ◌∷◌, ◌++◌, length, map, Option, None, Some, refl, sym, subst, ap, ◌∙◌, arith, append-nil, zero-add}
+use Rattle.std.proofs.Common.{◌≡◌, ℕ, ◌+◌, ◌<◌, ◌≤◌, nat_le, Bool, true, List, ◌∷◌, length, map, Option, None, Some, refl, sym, subst, ap, ◌∙◌, arith, append-nil, zero-add}
 use Rattle.std.proofs.lemmas.Bool.{le-leb}
 use Rattle.std.proofs.lemmas.List.Elements.{All-weaker}
 use Rattle.pipe_base.specs.declared.message.Service.{Service}
@@ -30,7 +30,7 @@ use Rattle.pipe_model.specs.OwnOutcome.{clock_outcome, first_failed, is_window_f
 use Rattle.pipe_model.specs.Run.{IsNodeStep}
 use Rattle.pipe_model.specs.Sender.{sender_calls, with_begun}
 use Rattle.pipe_model.proofs.Promises.{begun_below_next}
-use Rattle.pipe_relsend.specs.Preparation.{Preparation}
+use Rattle.pipe_relsend.specs.Pending.{Pending}
 use Rattle.pipe_relsend.specs.Sending as sending
 use Rattle.pipe_relsend.proofs.SendingLaws.{count_left, promise_begun, promise_first, stands_begun}
 use Rattle.pipe_host.specs.declared.buffers.Buffers.{Buffers}
@@ -43,7 +43,7 @@ use Rattle.pipe_host.proofs.HostSteps.{fields_of_host, notes_none}
 use Rattle.pipe_host.proofs.RecordLaws.{still_logged}
 
 -- the window of the host is that of its sender
-window_is : (service : Service) (calls : List SenderCall) (pending : List Preparation) → sending.Stands calls pending → is_full service pending ≡ is_window_full service (unsettled calls)
+window_is : (service : Service) (calls : List SenderCall) (pending : List Pending) → sending.Stands calls pending → is_full service pending ≡ is_window_full service (unsettled calls)
 window_is BestEffort calls pending stands = refl
 window_is Reliable calls pending stands = ap (nat_le most_unsettled) (count_left calls pending stands)
 
@@ -59,13 +59,13 @@ accepted : (now n : ℕ) → stamp_at now n ≤ last_stamp → Ok ≡ clock_outc
 accepted now n fits = let test : nat_le (stamp_at now n) last_stamp ≡ true = le-leb (stamp_at now n) last_stamp fits in rw test refl
 
 -- the promise after a send
-promised : (service : Service) (host : HostId) (now ts : Ts) (dests : List (HostId × List ℕ)) (calls : List SenderCall) (pending : List Preparation) → sending.Stands calls pending
+promised : (service : Service) (host : HostId) (now ts : Ts) (dests : List (HostId × List ℕ)) (calls : List SenderCall) (pending : List Pending) → sending.Stands calls pending
     → IsAboveBegun ts.0 calls → 0 < length dests → promise_with service ts.0 pending ≡ promise_of (ts.0 + 1) (with_begun (Send host service now dests) (Some ts) calls)
 promised BestEffort host now ts dests calls pending stands above some = promise_first (ts.0 + 1) calls pending stands
 promised Reliable host now ts dests calls pending stands above some = promise_begun (ts.0 + 1) calls pending (record { ts = ts; dests = dests }) stands above some
 
 -- the sender after a send
-pub begins : (service : Service) (host : HostId) (now ts : Ts) (dests : List (HostId × List ℕ)) (calls : List SenderCall) (pending : List Preparation) → sending.Stands calls pending
+pub begins : (service : Service) (host : HostId) (now ts : Ts) (dests : List (HostId × List ℕ)) (calls : List SenderCall) (pending : List Pending) → sending.Stands calls pending
     → IsAboveBegun ts.0 calls → 0 < length dests → sending.Stands (with_begun (Send host service now dests) (Some ts) calls) (begun_by service ts dests pending)
 begins BestEffort host now ts dests calls pending stands above some = stands
 begins Reliable host now ts dests calls pending stands above some = stands_begun calls pending (record { ts = ts; dests = dests }) stands above some
@@ -103,14 +103,14 @@ refuses graph host own service now dests outcome k step stands refused step_is =
 -- a send that is stamped
 pub sends : (graph : Graph) (host : HostId) (own : List Record) (service : Service) (now : Ts) (dests : List (HostId × List ℕ)) (s : Stamp) (k : Host) (step : Step)
     → Stands graph host.0 own k → 0 < length dests → IsStamped k service now dests s
-    → step ≡ with_ways (route graph [] host.0) (map (sent_to service host s.ts (record { be = s.ts.0; commit = s.promise.0 })) dests) (record (quiet_step Ok) { stamped = Some s.ts })
+    → step ≡ with_ways (route graph (known_drops own) host.0) (map (sent_to service host s.ts (record { be = s.ts.0; commit = s.promise.0 })) dests) (record (quiet_step Ok) { stamped = Some s.ts })
     → IsNodeStep graph host.0 own (sent host service now dests step)
 sends graph host own service now dests s k step stands some stamped step_is =
     let ts : Ts = s.ts in
     let f : Fields = record { be = ts.0; commit = s.promise.0 } in
     let calls : List SenderCall = sender_calls graph host.0 own in
     let messages : Fields → List Packet = λ g. map (sent_to service host ts g) dests in
-    let st : Step = with_ways (route graph [] host.0) (messages f) (record (quiet_step Ok) { stamped = Some ts }) in
+    let st : Step = with_ways (route graph (known_drops own) host.0) (messages f) (record (quiet_step Ok) { stamped = Some ts }) in
     let r : Record = sent host service now dests st in
     let stamp_is : ts.0 ≡ stamp_at now.0 (next own) = stamped.stamp_is ∙ ap (stamp_at now.0) stands.next_is in
     let outcome : Ok ≡ own_outcome graph host.0 own (Send host service now dests) =
@@ -124,7 +124,7 @@ sends graph host own service now dests s k step stands some stamped step_is =
     fields_of_host graph host.0 own r ts.0 (ts.0 + 1) (with_begun (Send host service now dests) (Some ts) calls) stands.host refl next_is refl
     ∙ ap {B = Fields} (λ (n : ℕ). record { be = ts.0; commit = n })
     (sym (stamped.promise_is ∙ promised service host now ts dests calls k.sender stands.sender_is (stamp_above_begun graph host.0 own ts.0 above) some)) in
-    let drops_now : known_drops (r ∷ own) ≡ [] = ap (λ (ls : List LinkId). ls ++ []) stands.links_are.no_drops in
+    let drops_now : known_drops (r ∷ own) ≡ known_drops own = append-nil (known_drops own) in
     subst (λ (x : Step). IsNodeStep graph host.0 own (sent host service now dests x)) (sym step_is)
     (record {
       outcome_is = outcome;
@@ -137,10 +137,10 @@ sends graph host own service now dests s k step stands some stamped step_is =
       put_is =
           sym (append-nil (routed (route graph (known_drops (r ∷ own)) host.0) (messages (fields graph host.0 own r)))
           ∙ ap (λ (ls : List LinkId). routed (route graph ls host.0) (messages (fields graph host.0 own r))) drops_now
-          ∙ ap (λ (g : Fields). routed (route graph [] host.0) (messages g)) fields_is);
+          ∙ ap (λ (g : Fields). routed (route graph (known_drops own) host.0) (messages g)) fields_is);
       unrouted_is =
-          zero-add (lost (route graph [] host.0) (messages f))
+          zero-add (lost (route graph (known_drops own) host.0) (messages f))
           ∙ sym (ap (λ (ls : List LinkId). lost (route graph ls host.0) (messages (fields graph host.0 own r))) drops_now
-          ∙ ap (λ (g : Fields). lost (route graph [] host.0) (messages g)) fields_is);
+          ∙ ap (λ (g : Fields). lost (route graph (known_drops own) host.0) (messages g)) fields_is);
       control_is = refl;
     })

@@ -1,8 +1,9 @@
 -- The held messages of both services.
-use Rattle.std.specs.Prelude.{◌≡◌, ℕ, ◌-◌, false, List, ◌++◌, length, drop, Option, Some}
+use Rattle.std.specs.Prelude.{◌≡◌, ℕ, ◌-◌, if◌then◌else◌, Bool, false, List, ◌++◌, length, drop, Option, None, Some}
 use Rattle.std.specs.Option.{option_or}
 use Rattle.pipe_base.specs.declared.control.Announced.{Announced}
 use Rattle.pipe_base.specs.declared.message.Entry.{Entry}
+use Rattle.pipe_base.specs.declared.message.Key.{Key}
 use Rattle.pipe_base.specs.declared.message.Service.{Service}
 use Rattle.pipe_base.specs.declared.message.Service.TheVariants.{BestEffort, Reliable}
 use Rattle.pipe_base.specs.declared.packet.Packet.{Packet}
@@ -12,7 +13,8 @@ use Rattle.pipe_base.specs.Messages.{Messages, has_key}
 use Rattle.pipe_barrier.specs.declared.registers.Barriers.{Barriers}
 use Rattle.pipe_model.specs.Fate.{fate_for, with_held}
 use Rattle.pipe_model.specs.Got.{key_of, message_of}
-use Rattle.pipe_reorder.specs.Buffer.{Buffer, left_by, passed_by, with_failed}
+use Rattle.pipe_model.specs.Recalls.{is_recall}
+use Rattle.pipe_reorder.specs.Buffer.{Buffer, has_tombstone, left_by, newest_with, passed_by, with_failed, with_tombstone}
 use Rattle.pipe_host.specs.declared.buffers.Buffers.{Buffers}
 
 -- the buffer of a service
@@ -20,11 +22,35 @@ abbrev pub buffer_of : Service → Buffers → Buffer
 buffer_of BestEffort buffers = buffers.best
 buffer_of Reliable buffers = buffers.reliable
 
+-- the fate of a message among those of a buffer
+abbrev pub fate_by : Buffer → Option Packet → Option Fate
+fate_by b message = fate_for b.barrier b.failed (has_tombstone b.tombstones) b.messages message
+
 -- the fate of the message that a host gets, of whichever service
 abbrev pub fate_among : Buffers → Option Packet → Option Fate
-fate_among buffers got =
-    option_or (fate_for buffers.best.barrier buffers.best.failed buffers.best.messages (message_of BestEffort got))
-    (fate_for buffers.reliable.barrier buffers.reliable.failed buffers.reliable.messages (message_of Reliable got))
+fate_among buffers got = option_or (fate_by buffers.best (message_of BestEffort got)) (fate_by buffers.reliable (message_of Reliable got))
+
+-- the packet, where it is addressed to the host
+abbrev pub where_mine : Bool → Packet → Option Packet
+where_mine mine p = if mine then Some p else None
+
+-- the tombstones with that of the message that a host gets told to take back
+abbrev pub stones_with : ℕ → Option Packet → List Key → List Key
+stones_with barrier None stones = stones
+stones_with barrier (Some p) stones = if is_recall p.kind then with_tombstone barrier (key_of p) stones else stones
+
+-- the newest one then
+abbrev pub newest_after : ℕ → Option Packet → List Key → Option Key
+newest_after barrier None stones = None
+newest_after barrier (Some p) stones = if is_recall p.kind then newest_with barrier (key_of p) stones else None
+
+-- the buffer with that tombstone
+abbrev pub burying : Option Packet → Buffer → Buffer
+burying got b = record b { tombstones = stones_with b.barrier got b.tombstones; newest = newest_after b.barrier got b.tombstones }
+
+-- reliable messages alone are taken back
+abbrev pub all_burying : Option Packet → Buffers → Buffers
+all_burying got buffers = record { best = buffers.best; reliable = burying got buffers.reliable }
 
 -- the buffer of a service, and in it the message of a packet that has the fate held
 abbrev pub joined : Service → Option Fate → Packet → Buffer → Buffer

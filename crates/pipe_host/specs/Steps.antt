@@ -1,5 +1,5 @@
 -- What a host works out of a send, a packet, a tick and a control message, in terms of what it keeps.
-use Rattle.std.specs.Prelude.{◌≡◌, ℕ, ◌&&◌, if◌then◌else◌, Bool, max, List, [], ◌∷◌, Option}
+use Rattle.std.specs.Prelude.{◌≡◌, ℕ, ◌==◌, ◌&&◌, if◌then◌else◌, Bool, max, List, [], ◌∷◌, Option, None, Some}
 use Rattle.pipe_base.specs.declared.control.Control.{Control}
 use Rattle.pipe_base.specs.declared.control.To.TheVariants.{Node}
 use Rattle.pipe_base.specs.declared.message.Entry.{Entry}
@@ -10,14 +10,15 @@ use Rattle.pipe_base.specs.declared.name.LinkId.{LinkId}
 use Rattle.pipe_base.specs.declared.name.NodeId.{NodeId}
 use Rattle.pipe_base.specs.declared.name.Ts.{Ts}
 use Rattle.pipe_base.specs.declared.packet.Packet.{Packet}
+use Rattle.pipe_base.specs.declared.packet.PacketKind.{PacketKind}
 use Rattle.pipe_base.specs.declared.step.Fate.{Fate}
 use Rattle.pipe_base.specs.declared.step.Outcome.TheVariants.{Ok}
 use Rattle.pipe_base.specs.declared.step.Step.{Step}
 use Rattle.pipe_base.specs.Clock.{after_logged}
 use Rattle.pipe_base.specs.Fate.{is_holding}
 use Rattle.pipe_base.specs.Graph.{Graph, ins_of}
-use Rattle.pipe_base.specs.Moment.{Received, with_downed}
-use Rattle.pipe_base.specs.Packets.{Fields, ack_to}
+use Rattle.pipe_base.specs.Moment.{Received, with_downed, with_dropped}
+use Rattle.pipe_base.specs.Packets.{Fields, ack_to, recall_ack_to}
 use Rattle.pipe_base.specs.ShortestRoute.{route}
 use Rattle.pipe_base.specs.Step.{quiet_step}
 use Rattle.pipe_base.specs.Ways.{with_ways}
@@ -29,8 +30,9 @@ use Rattle.pipe_model.specs.declared.record.Record.{Record}
 use Rattle.pipe_model.specs.declared.record.Took.TheVariants.{Link, Message, Nothing}
 use Rattle.pipe_model.specs.Got.{carries}
 use Rattle.pipe_model.specs.Marks.{told_marks}
-use Rattle.pipe_model.specs.Moments.{moments_of}
-use Rattle.pipe_relsend.specs.Preparation.{Preparation}
+use Rattle.pipe_model.specs.Moments.{known_drops, moments_of}
+use Rattle.pipe_model.specs.Recalls.{is_recall}
+use Rattle.pipe_relsend.specs.Pending.{Pending}
 use Rattle.pipe_relsend.specs.Sending.{first_or}
 use Rattle.pipe_host.specs.declared.host.Host.{Host}
 use Rattle.pipe_host.specs.Buffers.{last_of, logged_by}
@@ -52,34 +54,47 @@ abbrev pub told : NodeId → Control → ℕ → Bool → Step → Record
 told node control place keep step = record { event = ControlTake place keep; took = Message (record { to = Node node; control = control }); step = step }
 
 -- the two barriers of a host's packets, with this next timestamp
-abbrev pub fields_at : ℕ → List Preparation → Fields
+abbrev pub fields_at : ℕ → List Pending → Fields
 fields_at next pending = record { be = next; commit = first_or next pending }
 
 -- the same after a step that logged these entries
 abbrev pub fields_after : List (Service × Entry) → Host → Fields
 fields_after log k = fields_at (max k.clock.next.0 (after_logged log)) k.sender
 
--- a reliable message with this fate is held, so it is acknowledged
-abbrev pub acks_for : HostId → Fields → Option Fate → Packet → List Packet
-acks_for host f fate p = if carries Reliable p.kind && is_holding fate then ack_to host f p ∷ [] else []
+-- A reliable message with this fate that is held is acknowledged, and the taking back of a message at this host is always
+-- answered.
+abbrev pub answers_for : HostId → Fields → Option Fate → Packet → List Packet
+answers_for host f fate p =
+    if carries Reliable p.kind && is_holding fate then ack_to host f p ∷ []
+    else if (p.dst.0 == host.0) && is_recall p.kind then recall_ack_to host f p ∷ [] else []
 
--- The step of a received packet with this fate, where its message is held already: what the barriers pass is logged, and a
--- reliable message that is held is acknowledged.
+-- the answer of a kind to a packet, if there is one
+abbrev pub answers_as : Option PacketKind → HostId → Fields → Packet → List Packet
+answers_as None host f p = []
+answers_as (Some kind) host f p = record (ack_to host f p) { kind = kind } ∷ []
+
+-- The step of a received packet with this fate, where what it brings is in the buffers already: what the barriers pass is
+-- logged, and the packet is answered.
 pub record IsReceipt (k : Host) (link : LinkId) (p : Packet) (fate : Option Fate) (step : Step) : Type 0 where
   pub barriers : Barriers
   pub barriers_are : (graph : Graph) (node : ℕ) (own : List Record) → links.Stands graph node own k.links
       → AreBarriers (ins_of graph node) (Received link.0 p.be.0 p.commit.0 ∷ moments_of own) barriers
   pub step_is : (graph : Graph) (node : ℕ) (own : List Record) → links.Stands graph node own k.links
-      → step ≡ with_ways (route graph [] node) (acks_for (record { 0 = node }) (fields_after (logged_by barriers k.held) k) fate p)
+      → step ≡ with_ways (route graph (known_drops own) node) (answers_for (record { 0 = node }) (fields_after (logged_by barriers k.held) k) fate p)
       (record (quiet_step Ok) { fate = fate; logged = logged_by barriers k.held })
 
--- The step of a control message by which so many hosts are noted already: what it tells goes down, and what the barriers pass
--- then is logged.
-pub record IsObeying (k : Host) (control : Control) (count : ℕ) (step : Step) : Type 0 where
+-- The step of a control message by which so many hosts are noted already, and these links are dropped: what it tells goes down
+-- or is dropped, and what the barriers pass then is logged.
+pub record IsObeying (k : Host) (control : Control) (drops : List LinkId) (count : ℕ) (step : Step) : Type 0 where
   pub marks : List (LinkId × Ts)
   pub barriers : Barriers
   pub marks_are : (graph : Graph) (node : ℕ) (own : List Record) → links.Stands graph node own k.links
       → marks ≡ told_marks (ins_of graph node) (moments_of own) control
   pub barriers_are : (graph : Graph) (node : ℕ) (own : List Record) → links.Stands graph node own k.links
-      → AreBarriers (ins_of graph node) (with_downed marks (moments_of own)) barriers
-  pub step_is : step ≡ record (quiet_step Ok) { downed = marks; noted = last_of count k.held.reliable.failed; logged = logged_by barriers k.held }
+      → AreBarriers (ins_of graph node) (with_dropped drops (with_downed marks (moments_of own))) barriers
+  pub step_is : step ≡ record (quiet_step Ok) {
+    downed = marks;
+    dropped = drops;
+    noted = last_of count k.held.reliable.failed;
+    logged = logged_by barriers k.held;
+  }

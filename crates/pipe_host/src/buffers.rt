@@ -1,20 +1,22 @@
 // The messages that a host holds, of both services.
-ghost use Rattle.std.specs.Prelude.{◌≡◌, ◌++◌, ◌-◌, ◌^◌, List, Some, length, IfOk, OnErr, OnOk};
+ghost use Rattle.std.specs.Prelude.{◌≡◌, ◌++◌, ◌-◌, ◌^◌, List, Option, Some, length, IfOk, OnErr, OnOk};
 ghost use Rattle.pipe_base.specs.declared.control.Announced.{Announced};
 ghost use Rattle.pipe_base.specs.declared.message.Service.TheVariants.{BestEffort, Reliable};
+ghost use Rattle.pipe_base.specs.declared.packet.Packet.{Packet as APacket};
 ghost use Rattle.pipe_base.specs.Messages.{AreBelow};
 ghost use Rattle.pipe_model.specs.Marks.{told_hosts};
-ghost use Rattle.pipe_reorder.specs.Buffer.{empty_buffer, passed_by, with_no_void};
+ghost use Rattle.pipe_reorder.specs.Buffer.{empty_buffer, passed_by, with_no_buried, with_no_void};
 ghost use Rattle.pipe_host.specs.declared.buffers.Buffers.{Buffers as ABuffers};
-ghost use Rattle.pipe_host.specs.Buffers.{IsFresh, all_joined, all_left, all_noting, buffer_of, fate_among};
+ghost use Rattle.pipe_host.specs.Buffers.{IsFresh, all_burying, all_joined, all_left, all_noting, buffer_of, fate_among, where_mine};
 
-use crate::fates::{self, carries, key_of};
+use crate::fates::{self, carries, is_recall, key_of};
 use pipe_barrier::Barriers;
-use pipe_base::{Control, Fate, LoggedList, NoMemory, Noted, Packet, Service};
+use pipe_base::{Control, Fate, Key, LoggedList, NoMemory, Noted, Packet, Service};
 use pipe_reorder::Reorder;
 use std::alloc::Global;
 
-/// A buffer for each service. Failed hosts are noted in that of reliable messages alone, as no others are void by them.
+/// A buffer for each service. Failed hosts and tombstones are in that of reliable messages alone, as no others are void or taken
+/// back.
 #[derive(Drop)]
 pub struct Buffers {
     best: Reorder,
@@ -75,6 +77,13 @@ impl Buffers {
         self.reliable.drop_void();
     }
 
+    /// Holds the message no more whose tombstone is the newest. Takes no memory.
+    pub fn drop_buried(&mut self)
+        ensures { self.new ≡ record self.old { reliable = with_no_buried self.old.reliable } }
+    {
+        self.reliable.drop_buried();
+    }
+
     /// What becomes of the message of a packet that comes now, if it carries one.
     pub fn fate(&self, packet: &Packet) -> Option<Fate>
         ensures value { result ≡ fate_among self.now (Some packet.now) }
@@ -89,8 +98,35 @@ impl Buffers {
         }
     }
 
+    /// Takes in what a packet brings, which is addressed to the host or not: its message is held, where that is its fate, and
+    /// what it takes back from the host gets a tombstone.
+    pub fn take_in(
+        &mut self,
+        fate: Option<Fate>,
+        packet: &Packet,
+        mine: bool,
+    ) -> Result<(), NoMemory>
+        ensures ok { OnOk result (self.new ≡ all_joined fate packet.now (all_burying (where_mine mine packet.now) self.old)) }
+        ensures err { OnErr result (self.new ≡ self.old) }
+    {
+        if is_recall(packet.kind) && mine {
+            self.reliable.bury(key_of(packet))
+        } else {
+            self.hold(fate, packet)?;
+            self.reliable.settle();
+            Ok(())
+        }
+    }
+
+    /// The tombstone that is the newest.
+    pub fn newest(&self) -> Option<Key>
+        ensures { result ≡ self.now.reliable.newest }
+    {
+        self.reliable.newest()
+    }
+
     /// Holds the message of a packet whose fate is held.
-    pub fn hold(&mut self, fate: Option<Fate>, packet: &Packet) -> Result<(), NoMemory>
+    fn hold(&mut self, fate: Option<Fate>, packet: &Packet) -> Result<(), NoMemory>
         ensures ok { OnOk result (self.new ≡ all_joined fate packet.now self.old) }
         ensures err { OnErr result (self.new ≡ self.old) }
     {
@@ -103,8 +139,17 @@ impl Buffers {
         }
     }
 
+    /// Takes out again what `take_in` took in of this packet, where this tombstone was the newest before. Takes no memory.
+    pub fn give_back(&mut self, fate: Option<Fate>, packet: &Packet, newest: Option<Key>)
+        ensures { (before : ABuffers) (got : Option APacket) → newest ≡ before.reliable.newest → IsFresh fate packet.now before
+            → self.old ≡ all_joined fate packet.now (all_burying got before) → self.new ≡ before }
+    {
+        self.let_go(fate, packet);
+        self.reliable.unbury(newest);
+    }
+
     /// Holds no more what `hold` holds for this packet. Takes no memory.
-    pub fn let_go(&mut self, fate: Option<Fate>, packet: &Packet)
+    fn let_go(&mut self, fate: Option<Fate>, packet: &Packet)
         ensures { (before : ABuffers) → IsFresh fate packet.now before → self.old ≡ all_joined fate packet.now before → self.new ≡ before }
     {
         if carries(Service::BestEffort, packet.kind) {
@@ -114,7 +159,7 @@ impl Buffers {
         }
     }
 
-    /// Appends the held messages below the barrier of their service that are not void, best effort first.
+    /// Appends the held messages below the barrier of their service that are not void and have no tombstone, best effort first.
     pub fn copy_passed(&self, barriers: Barriers, out: &mut LoggedList) -> Result<(), NoMemory>
         ensures ok { OnOk result (out.new ≡ (out.old ++ passed_by barriers.be.0 self.now.best) ++ passed_by barriers.commit.0 self.now.reliable) }
         ensures within { OnOk result (AreBelow (2 ^ 64 - 1) out.old → AreBelow (2 ^ 64 - 1) out.new) }

@@ -3,6 +3,7 @@ ghost use Rattle.std.specs.Prelude.{◌≡◌, Some, OnErr, OnOk};
 ghost use Rattle.pipe_base.specs.Messages.{Messages};
 ghost use Rattle.pipe_model.specs.Fate.{with_held};
 ghost use Rattle.pipe_model.specs.Got.{carries, key_of};
+ghost use Rattle.pipe_model.specs.Recalls.{is_recall};
 ghost use Rattle.pipe_host.specs.Buffers.{IsNew};
 
 use pipe_base::{Fate, Key, NoMemory, Packet, PacketKind, Service};
@@ -16,6 +17,13 @@ pub fn carries(service: Service, kind: PacketKind) -> bool
         Service::BestEffort => matches!(kind, PacketKind::Plain),
         Service::Reliable => matches!(kind, PacketKind::Prepare),
     }
+}
+
+/// Whether packets of this kind take a message back.
+pub fn is_recall(kind: PacketKind) -> bool
+    ensures { result ≡ is_recall kind }
+{
+    matches!(kind, PacketKind::Recall)
 }
 
 pub fn key_of(packet: &Packet) -> Key

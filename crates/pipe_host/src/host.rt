@@ -13,11 +13,11 @@ ghost use Rattle.pipe_model.specs.Moments.{moments_of, noted_hosts};
 ghost use Rattle.pipe_model.specs.Run.{IsNodeStep};
 ghost use Rattle.pipe_model.specs.Sender.{sender_calls};
 ghost use Rattle.pipe_relsend.specs.Sending as sending;
-ghost use Rattle.pipe_host.specs.Host.{Does, Stands, StandsWith, buffer_with};
+ghost use Rattle.pipe_host.specs.Host.{Does, Stands, StandsWith, buffer_for};
 ghost use Rattle.pipe_host.specs.Steps.{sent, taken, ticked, told};
 
 use crate::buffers::Buffers;
-use crate::records::{acknowledge, give_back, let_out, take_back};
+use crate::records::{give_back, hear, let_out, note, take_back};
 use crate::times::follow;
 use pipe_barrier::Registers;
 use pipe_base::{
@@ -32,11 +32,12 @@ use pipe_reorder::Reorder;
 use pipe_topo::Topology;
 use std::alloc::Global;
 
-/// A host: the registers of the links into it, its clock, the sender of its reliable scatterings, the messages that it holds,
-/// and the failed hosts that it has noted. Contracts speak of any records of its own for which it stands.
+/// A host: the registers of the links into it and the ways out of it, its clock, the sender of its reliable scatterings, the
+/// messages that it holds, and the failed hosts that it has noted. Contracts speak of any records of its own for which it stands.
 ///
 /// A step goes in two phases, for a caller that may still refuse it: `work_send`, `work_take`, `work_tick` or `work_control`
-/// works it out, and then either `follow` takes its record over or `undo` gives back what was held, noted or begun for it.
+/// works it out, and then either `follow` takes its record over or `undo` gives back what was held, noted, begun or set aside
+/// for it.
 /// `send`, `take`, `tick` and `control` are both phases in one call.
 #[derive(Drop)]
 pub struct Host {
@@ -64,7 +65,8 @@ impl Host {
     }
 
     pub fn host(&self) -> HostId
-        ensures { (graph : Graph) (node : ℕ) (own : List ARecord) → Stands graph node own self.now → result.0 ≡ node }
+        ensures value { result.0 ≡ self.now.links.node.0 }
+        ensures stands { (graph : Graph) (node : ℕ) (own : List ARecord) → Stands graph node own self.now → result.0 ≡ node }
     {
         HostId(self.links.node().0)
     }
@@ -92,10 +94,11 @@ impl Host {
         self.links.registers()
     }
 
-    /// The messages of a service that are held: from the barrier of its plane on, without those that are void.
+    /// The messages of a service that are held: from the barrier of its plane on, without those that are void or were taken
+    /// back.
     pub fn held(&self, service: Service) -> &Reorder
         ensures { (graph : Graph) (node : ℕ) (own : List ARecord) → Stands graph node own self.now
-            → result.now ≡ buffer_with service graph node own own }
+            → result.now ≡ buffer_for service graph node own }
     {
         self.held.of(service)
     }
@@ -121,17 +124,19 @@ impl Host {
             → ComesIn graph node made.now.event → IsNodeStep graph node own made.now
             → Stands graph node (made.now ∷ own) self.new }
     {
-        acknowledge(&mut self.sender, &self.links, made);
+        hear(&mut self.sender, &self.links, made);
         self.links.follow(made);
         follow(&mut self.clock, made);
         let_out(&mut self.held, self.links.barriers(), made);
+        note(&mut self.sender, self.held.noted(), made);
     }
 
-    /// Gives back what was held, noted or begun for a step that was worked out and is refused. Takes no memory.
+    /// Gives back what was held, noted, begun or set aside for a step that was worked out and is refused. Takes no memory.
     pub fn undo(&mut self, made: &Record)
         ensures { (graph : Graph) (node : ℕ) (own : List ARecord) → StandsWith graph node own made.now self.old
             → IsNodeStep graph node own made.now → Stands graph node own self.new }
     {
+        self.links.undo();
         give_back(&mut self.held, made);
         take_back(&mut self.sender, made);
     }
@@ -210,14 +215,21 @@ impl Host {
         Ok(())
     }
 
-    /// Takes a control message to the host. The step is empty first, and after want of memory, which changes nothing.
-    pub fn control(&mut self, control: Control, step: &mut Step) -> Result<(), NoMemory>
-        ensures ok { OnOk result ((graph : Graph) (node : NodeId) (own : List ARecord) (place : ℕ) (keep : Bool) → Stands graph node.0 own self.old
-            → Does graph node.0 own (told node control place keep step.new) self.new) }
+    /// Takes a control message to the host in this topology. The step is empty first, and after want of memory, which changes
+    /// nothing.
+    pub fn control(
+        &mut self,
+        topology: &Topology,
+        control: Control,
+        step: &mut Step,
+    ) -> Result<(), NoMemory>
+        requires { self.old.links.node.0 < topology.now.nodes }
+        ensures ok { OnOk result ((node : NodeId) (own : List ARecord) (place : ℕ) (keep : Bool) → Stands topology.now node.0 own self.old
+            → Does topology.now node.0 own (told node control place keep step.new) self.new) }
         ensures err { OnErr result ((self.new ≡ self.old) × (step.new ≡ quiet_step Outcome.Ok)) }
     {
         *step = Step::new(self.alloc);
-        let worked = self.work_control(&control)?;
+        let worked = self.work_control(topology, &control)?;
         let record = Record {
             event: Event::ControlTake {
                 place: 0,

@@ -83,7 +83,7 @@ impl Host {
         dests: &DestList,
     ) -> Result<KeptStep, NoMemory>
         requires few { length dests.now ≤ most_receivers }
-        ensures { IfOk result (λ step. step ≡ with_ways (picked self.now.links.routes.links)
+        ensures { IfOk result (λ step. step ≡ with_ways (picked self.now.links.ways.routes.links)
             (map (sent_to service (record { 0 = self.now.links.node.0 }) stamp.ts (record { be = stamp.ts.0; commit = stamp.promise.0 })) dests.now)
             (record (quiet_step Outcome.Ok) { stamped = Some stamp.ts })) }
     {

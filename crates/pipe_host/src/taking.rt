@@ -1,18 +1,21 @@
 // How a host works out the taking of a packet.
-ghost use Rattle.std.specs.Prelude.{◌≡◌, ◌&&◌, ◌-◌, ◌^◌, ℕ, Bool, List, Some, true, IfOk, OnErr};
-ghost use Rattle.pipe_base.specs.declared.message.Service.TheVariants.{Reliable};
+ghost use Rattle.std.specs.Prelude.{◌≡◌, ◌<◌, ◌-◌, ◌^◌, ℕ, Bool, List, Some, true, IfOk, OnErr, OnOk};
 ghost use Rattle.pipe_base.specs.Fate.{is_holding};
 ghost use Rattle.pipe_base.specs.Graph.{Graph, ins_of};
 ghost use Rattle.pipe_base.specs.Messages.{AreBelow};
 ghost use Rattle.pipe_base.specs.Moment.{has_link};
-ghost use Rattle.pipe_base.specs.Packets.{ack_to};
+ghost use Rattle.pipe_base.specs.Packets.{Fields, ack_to};
+ghost use Rattle.pipe_base.specs.ShortestRoute.{route};
+ghost use Rattle.pipe_base.specs.Ways.{with_ways};
+ghost use Rattle.pipe_links.specs.Links as links;
 ghost use Rattle.pipe_model.specs.declared.record.Record.{Record};
-ghost use Rattle.pipe_model.specs.Got.{carries, gets_of};
+ghost use Rattle.pipe_model.specs.Got.{gets_of};
+ghost use Rattle.pipe_model.specs.Moments.{known_drops};
 ghost use Rattle.pipe_host.specs.Buffers.{IsFresh, fate_among};
 ghost use Rattle.pipe_host.specs.Host.{Stands, Works};
-ghost use Rattle.pipe_host.specs.Steps.{IsReceipt, fields_after, taken};
+ghost use Rattle.pipe_host.specs.Steps.{IsReceipt, answers_as, answers_for, fields_after, taken};
 
-use crate::fates::carries;
+use crate::fates::{carries, is_recall};
 use crate::host::Host;
 use crate::times::deliver;
 use pipe_base::{
@@ -22,7 +25,8 @@ use pipe_base::{
 
 impl Host {
     /// Works out what the taking of a packet from a link into the host does. Nothing changes but that the message that the
-    /// packet brings is held, where that is its fate. A packet on a link that is not up is ignored.
+    /// packet brings is held, where that is its fate, and that what it takes back has its tombstone. A packet on a link that is
+    /// not up is ignored.
     pub fn work_take(&mut self, link: LinkId, packet: &Packet) -> Result<KeptStep, NoMemory>
         ensures ok { IfOk result (λ step. (graph : Graph) (node : ℕ) (own : List Record) (place : ℕ) (keep : Bool) → Stands graph node own self.old
             → has_link link.0 (ins_of graph node) ≡ true → Works graph node own (taken link packet.now place keep step) self.new) }
@@ -32,11 +36,13 @@ impl Host {
             return Ok(KeptStep::quiet(Outcome::Ignored));
         }
         let fate = self.fate(packet);
-        self.held.hold(fate, packet)?;
+        let mine = packet.dst.0 == self.links.node().0;
+        let newest = self.held.newest();
+        self.held.take_in(fate, packet, mine)?;
         match self.receive(link, packet, fate) {
             Ok(step) => Ok(step),
             Err(NoMemory) => {
-                self.held.let_go(fate, packet);
+                self.held.give_back(fate, packet, newest);
                 Err(NoMemory)
             }
         }
@@ -55,7 +61,7 @@ impl Host {
         }
     }
 
-    /// The step of a packet that was received, where its message is held already.
+    /// The step of a packet that was received, where what it brings is in the buffers already.
     fn receive(
         &self,
         link: LinkId,
@@ -68,23 +74,53 @@ impl Host {
         let mut step = Step::new(self.alloc);
         step.fate = fate;
         self.held.copy_passed(barriers, &mut step.logged)?;
-        if carries(Service::Reliable, packet.kind) && is_holding(fate) {
-            let ack = self.acknowledgement(packet, step.logged.as_slice());
-            self.links.put_on_way(ack, &mut step)?;
-        }
+        self.put_answer(packet, fate, &mut step)?;
         step.keep(self.alloc)
     }
 
-    /// The acknowledgement of a reliable message, by a step that logged these entries. The message itself settles nothing.
-    fn acknowledgement(&self, packet: &Packet, logged: &[(Service, Entry)]) -> Packet
+    /// Puts the answer to a packet, if it is answered.
+    fn put_answer(
+        &self,
+        packet: &Packet,
+        fate: Option<Fate>,
+        step: &mut Step,
+    ) -> Result<(), NoMemory>
+        requires room { step.old.unrouted < 4294967295 }
+        ensures ok { OnOk result ((graph : Graph) (node : ℕ) (own : List Record) → links.Stands graph node own self.now.links → AreBelow (2 ^ 64 - 1) step.old.logged
+            → step.new ≡ with_ways (route graph (known_drops own) node)
+            (answers_for (record { 0 = node }) (fields_after step.old.logged self.now) fate packet.now) step.old) }
+    {
+        let Some(kind) = self.answer(packet, fate) else {
+            return Ok(());
+        };
+        let answer = self.answering(kind, packet, step.logged.as_slice());
+        self.links.put_on_way(answer, step)
+    }
+
+    /// How a packet is answered: a reliable message that is held by an acknowledgement, and a recall of a message here always.
+    fn answer(&self, packet: &Packet, fate: Option<Fate>) -> Option<PacketKind>
+        ensures { (f : Fields) → answers_as result (record { 0 = self.now.links.node.0 }) f packet.now
+            ≡ answers_for (record { 0 = self.now.links.node.0 }) f fate packet.now }
+    {
+        if carries(Service::Reliable, packet.kind) && is_holding(fate) {
+            Some(PacketKind::Ack)
+        } else if packet.dst.0 == self.links.node().0 && is_recall(packet.kind) {
+            Some(PacketKind::RecallAck)
+        } else {
+            None
+        }
+    }
+
+    /// The answer of this kind to a packet, by a step that logged these entries. The packet itself settles nothing.
+    fn answering(&self, kind: PacketKind, packet: &Packet, logged: &[(Service, Entry)]) -> Packet
         ensures { AreBelow (2 ^ 64 - 1) logged.now
-            → result ≡ ack_to (record { 0 = self.now.links.node.0 }) (fields_after logged.now self.now) packet.now }
+            → result ≡ record (ack_to (record { 0 = self.now.links.node.0 }) (fields_after logged.now self.now) packet.now) { kind = kind } }
     {
         let mut clock = self.clock;
         deliver(&mut clock, logged);
         let be = clock.next();
         Packet {
-            kind: PacketKind::Ack,
+            kind,
             src: HostId(self.links.node().0),
             dst: packet.src,
             ts: packet.ts,

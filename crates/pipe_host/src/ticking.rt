@@ -1,26 +1,33 @@
 // How a host works out a tick.
-ghost use Rattle.std.specs.Prelude.{List, IfOk};
+ghost use Rattle.std.specs.Prelude.{◌≡◌, ◌++◌, ℕ, List, IfOk, OnErr, OnOk};
 ghost use Rattle.pipe_base.specs.declared.name.NodeId.{NodeId};
-ghost use Rattle.pipe_base.specs.Graph.{Graph};
+ghost use Rattle.pipe_base.specs.Graph.{Graph, ins_of};
+ghost use Rattle.pipe_base.specs.Moment.{with_downed};
+ghost use Rattle.pipe_barrier.specs.Registers.{downs};
 ghost use Rattle.pipe_model.specs.declared.record.Record.{Record};
+ghost use Rattle.pipe_model.specs.Duties.{done_told, gone_told};
+ghost use Rattle.pipe_model.specs.Moments.{moments_of};
 ghost use Rattle.pipe_host.specs.Host.{Stands, Works};
 ghost use Rattle.pipe_host.specs.Steps.{ticked};
 
 use crate::host::Host;
 use crate::times::deliver;
-use pipe_base::{HostId, KeptStep, NoMemory, Step, Ts};
+use pipe_base::{
+    Addressed, AddressedList, Control, DownList, HostId, KeptStep, NoMemory, Step, To, Ts,
+};
 
 impl Host {
     /// Works out what a tick does. Nothing changes. Links that were silent for the patience go down, and what the barriers
-    /// pass then is logged. With the host's promises after that, the messages are put again for which an acknowledgement is
-    /// missing, and then a beacon on each link out of the host. The controller is told of each in-link that is down then.
+    /// pass then is logged. With the host's promises after that, the messages and recalls are put again for which an answer is
+    /// missing, and then a beacon on each link out of the host that is not known as dropped. The controller is told of each
+    /// in-link that is down then, and how many failed hosts are noted and how many links are known as dropped.
     pub fn work_tick(&self, now: Ts) -> Result<KeptStep, NoMemory>
         ensures { IfOk result (λ step. (graph : Graph) (node : NodeId) (own : List Record) → Stands graph node.0 own self.now
             → Works graph node.0 own (ticked node now step) self.now) }
     {
         let mut step = Step::new(self.alloc);
         step.downed = self.links.silent_marks(self.alloc, now)?;
-        step.control = self.links.downs_with(self.alloc, &step.downed)?;
+        step.control = self.told(&step.downed)?;
         let barriers = self.links.barriers_without(&step.downed)?;
         self.held.copy_passed(barriers, &mut step.logged)?;
         let mut clock = self.clock;
@@ -34,5 +41,35 @@ impl Host {
         self.links
             .put_beacons(self.alloc, next, promise, &mut step)?;
         step.keep(self.alloc)
+    }
+
+    /// What the controller is told at a tick that takes these links down.
+    fn told(&self, marks: &DownList) -> Result<AddressedList, NoMemory>
+        ensures { IfOk result (λ told. (graph : Graph) (node : ℕ) (own : List Record) → Stands graph node own self.now
+            → told ≡ (downs (ins_of graph node) (with_downed marks.now (moments_of own)) ++ done_told graph node own) ++ gone_told node own) }
+    {
+        let mut told = self.links.downs_with(self.alloc, marks)?;
+        self.tell_done(&mut told)?;
+        self.links.tell_gone(&mut told)?;
+        Ok(told)
+    }
+
+    /// Tells the controller how many failed hosts are noted, where there are any and nothing more is to be taken back.
+    fn tell_done(&self, told: &mut AddressedList) -> Result<(), NoMemory>
+        ensures ok { OnOk result ((graph : Graph) (node : ℕ) (own : List Record) → Stands graph node own self.now
+            → told.new ≡ told.old ++ done_told graph node own) }
+        ensures err { OnErr result (told.new ≡ told.old) }
+    {
+        let count = self.held.noted().count();
+        if count == 0 || self.sender.is_recalling() {
+            return Ok(());
+        }
+        told.push(Addressed {
+            to: To::Controller,
+            control: Control::Done {
+                host: HostId(self.links.node().0),
+                count: count as u16,
+            },
+        })
     }
 }

@@ -1,3 +1,3 @@
 pub mod Follows
 pub mod Tells
-pub mod Ways
+pub mod WayLaws

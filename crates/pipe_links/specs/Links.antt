@@ -1,18 +1,18 @@
 -- What is kept of the links of a node, and what it stands for.
-use Rattle.std.specs.Prelude.{◌≡◌, ℕ, List, []}
+use Rattle.std.specs.Prelude.{◌≡◌, ℕ, ◌<◌, List, ◌∷◌, None, unwrap_or}
 use Rattle.pipe_base.specs.declared.packet.Packet.{Packet}
 use Rattle.pipe_base.specs.declared.packet.Plane.TheVariants as plane
-use Rattle.pipe_base.specs.Graph.{Graph, ins_of, outs_of}
-use Rattle.pipe_base.specs.ShortestRoute.{not_dropped}
+use Rattle.pipe_base.specs.Graph.{Graph, ins_of}
 use Rattle.pipe_barrier.specs.declared.in_links.InLinks.{InLinks}
 use Rattle.pipe_barrier.specs.declared.registers.Barriers.{Barriers}
 use Rattle.pipe_barrier.specs.InLinks as in_links
 use Rattle.pipe_model.specs.declared.record.Record.{Record}
 use Rattle.pipe_model.specs.Moments.{barrier_at, known_drops, moments_of, quiet_calls}
 use Rattle.pipe_model.specs.Run.{IsNodeHistory}
-use Rattle.pipe_route.specs.Routing.{routing_by}
 use Rattle.pipe_links.specs.declared.links.Links.{Links}
 use Rattle.pipe_links.specs.declared.links.Receipt.{Receipt}
+use Rattle.pipe_links.specs.declared.ways.Ways.{Ways}
+use Rattle.pipe_links.specs.Ways.{AreWays}
 
 -- what is kept of the in-links is what the rules say after the node's own records
 abbrev pub InsStand : Graph → ℕ → List Record → InLinks → Type 0
@@ -21,11 +21,20 @@ InsStand graph node own k = in_links.Stands (ins_of graph node) graph.patience k
 -- What is kept of a node's links is what the rules say after the node's own records, each of which is what the node owes.
 pub record Stands (graph : Graph) (node : ℕ) (own : List Record) (k : Links) : Type 0 where
   pub node_is : k.node.0 ≡ node
-  pub outs_are : k.outs ≡ outs_of graph node
-  pub routes_are : k.routes ≡ routing_by graph (not_dropped []) node
+  pub within : node < graph.nodes
   pub ins_are : InsStand graph node own k.ins
-  pub no_drops : known_drops own ≡ []
+  pub ways_are : AreWays graph node (known_drops own) k.ways
+  pub none_ahead : k.ahead ≡ None
   pub history : IsNodeHistory graph node own
+
+-- the ways that will hold next
+abbrev pub next_ways : Links → Ways
+next_ways k = unwrap_or k.ahead k.ways
+
+-- The same while a record is worked out: the ways after it are made already.
+pub record StandsWith (graph : Graph) (node : ℕ) (own : List Record) (r : Record) (k : Links) : Type 0 where
+  pub stands : Stands graph node own (record k { ahead = None })
+  pub ahead_are : AreWays graph node (known_drops (r ∷ own)) (next_ways k)
 
 -- these are the node's two barriers after its own records
 pub record AreBarriersAt (graph : Graph) (node : ℕ) (own : List Record) (b : Barriers) : Type 0 where

@@ -1,7 +1,11 @@
 //! What hosts and halves of switches have in common: the links of one node. Those that come in, with their registers and
-//! their silence, those that go out, and the ways by them.
+//! their silence, those that go out, the ways by them, and which links the node knows as dropped.
 #![tactic(auto)]
 
+mod known;
 mod links;
+mod ways;
 
+pub use known::Known;
 pub use links::Links;
+pub use ways::Ways;

@@ -1,8 +1,8 @@
 // The links of one node.
-ghost use Rattle.std.specs.Prelude.{◌≡◌, ◌&&◌, ◌∷◌, ◌<◌, [], ℕ, List, true, IfOk, OnErr, OnOk};
+ghost use Rattle.std.specs.Prelude.{◌≡◌, ◌&&◌, ◌∷◌, ◌++◌, ◌<◌, [], ℕ, List, None, true, unwrap_or, IfOk, OnErr, OnOk};
 ghost use Rattle.std.specs.Option.{option_map};
 ghost use Rattle.pipe_base.specs.Graph.{Graph, ins_of};
-ghost use Rattle.pipe_base.specs.Moment.{Received, has_link, is_up, with_downed};
+ghost use Rattle.pipe_base.specs.Moment.{Received, has_link, is_up, with_downed, with_dropped};
 ghost use Rattle.pipe_base.specs.Moment as moment;
 ghost use Rattle.pipe_base.specs.ShortestRoute.{route};
 ghost use Rattle.pipe_base.specs.Silence.{silent_marks};
@@ -11,27 +11,35 @@ ghost use Rattle.pipe_barrier.specs.Registers.{AreBarriers, downs};
 ghost use Rattle.pipe_barrier.specs.Registers as registers;
 ghost use Rattle.pipe_model.specs.declared.record.Record.{Record as ARecord};
 ghost use Rattle.pipe_model.specs.Acting.{ComesIn};
-ghost use Rattle.pipe_model.specs.Marks.{told_marks};
-ghost use Rattle.pipe_model.specs.Moments.{moments_of, quiet_calls, received, tick_of};
+ghost use Rattle.pipe_model.specs.Duties.{gone_told};
+ghost use Rattle.pipe_model.specs.Marks.{told_drops, told_marks};
+ghost use Rattle.pipe_model.specs.Moments.{known_drops, moments_of, quiet_calls, received, tick_of};
 ghost use Rattle.pipe_model.specs.Run.{IsNodeStep};
-ghost use Rattle.pipe_links.specs.Links.{AreBarriersAt, InsStand, Stands, receipt_of};
+ghost use Rattle.pipe_links.specs.Links.{AreBarriersAt, InsStand, Stands, StandsWith, receipt_of};
+ghost use Rattle.pipe_links.specs.Ways.{AreWays};
 
+use crate::known::Known;
+use crate::ways::Ways;
 use pipe_barrier::{Barriers, InLinks, Registers};
 use pipe_base::{
-    AddressedList, Control, DownList, LinkId, List, NoMemory, NodeId, Packet, Step, Ts,
+    Addressed, AddressedList, Control, DownList, LinkId, LinkList, List, NoMemory, NodeId, Packet,
+    Step, To, Ts,
 };
 use pipe_model::{Event, Record, Took};
 use pipe_route::Routes;
-use pipe_topo::{LinkSet, Topology};
+use pipe_topo::Topology;
 use std::alloc::Global;
 
-/// What one node keeps of its links.
+/// What one node keeps of its links. Contracts speak of any records of its own for which they stand.
+///
+/// A control message that tells of dropped links makes the ways anew, which takes memory. So that is done while its step is
+/// worked out: `ways_with` makes them, `prepare` sets them aside, and then either `follow` or `undo` says whether they hold.
 #[derive(Clone, Drop)]
 pub struct Links {
     node: NodeId,
     ins: InLinks,
-    outs: List<LinkId>,
-    routes: Routes,
+    ways: Ways,
+    ahead: Option<Ways>,
 }
 
 /// A packet was received on the link with these barriers.
@@ -48,12 +56,11 @@ impl Links {
         requires { node.0 < topology.now.nodes }
         ensures { IfOk result (Stands topology.now node.0 []) }
     {
-        let dropped = LinkSet::none(alloc, topology.links())?;
         Ok(Links {
             node,
             ins: InLinks::new(alloc, topology.ins(node), topology.patience())?,
-            outs: list_of(alloc, topology.outs(node))?,
-            routes: Routes::build(alloc, topology, node, &dropped)?,
+            ways: Ways::new(alloc, topology, node, Known::none(alloc))?,
+            ahead: None,
         })
     }
 
@@ -63,10 +70,11 @@ impl Links {
         self.node
     }
 
+    /// The routes by the links that are not known as dropped.
     pub fn routes(&self) -> &Routes
-        ensures { result.now ≡ self.now.routes }
+        ensures { result.now ≡ self.now.ways.routes }
     {
-        &self.routes
+        &self.ways.routes
     }
 
     /// The registers of the in-links.
@@ -135,6 +143,51 @@ impl Links {
         Ok(marks)
     }
 
+    /// The links that a control message tells as dropped, past the number of those known.
+    pub fn told_drops(&self, alloc: Global, control: &Control) -> Result<LinkList, NoMemory>
+        ensures { IfOk result (λ drops. (graph : Graph) (node : ℕ) (own : List ARecord) → Stands graph node own self.now
+            → drops ≡ told_drops (known_drops own) control.now) }
+    {
+        match control {
+            Control::DropLinks { links } => self.ways.known.news(alloc, links),
+            _ => Ok(List::new(alloc)),
+        }
+    }
+
+    /// The ways of the node once it knows these links as dropped too. None where there are none, and the ways stay. For more
+    /// than 65,535 known links there is no memory.
+    pub fn ways_with(
+        &self,
+        alloc: Global,
+        topology: &Topology,
+        drops: &LinkList,
+    ) -> Result<Option<Ways>, NoMemory>
+        requires { self.now.node.0 < topology.now.nodes }
+        ensures { IfOk result (λ ahead. (node : ℕ) (own : List ARecord) → Stands topology.now node own self.now
+            → AreWays topology.now node (known_drops own ++ drops.now) (unwrap_or ahead self.now.ways)) }
+    {
+        if drops.is_empty() {
+            return Ok(None);
+        }
+        let known = self.ways.known.with(drops)?;
+        Ok(Some(Ways::new(alloc, topology, self.node, known)?))
+    }
+
+    /// Sets the ways aside that will hold once the record that is worked out is followed. Takes no memory.
+    pub fn prepare(&mut self, ahead: Option<Ways>)
+        ensures { self.new ≡ record self.old { ahead = ahead } }
+    {
+        self.ahead = ahead;
+    }
+
+    /// The barriers after some links have gone down and then others were dropped, one after the other.
+    pub fn barriers_after(&self, marks: &DownList, drops: &LinkList) -> Result<Barriers, NoMemory>
+        ensures { IfOk result (λ barriers. (graph : Graph) (node : ℕ) (own : List ARecord) → Stands graph node own self.now
+            → AreBarriers (ins_of graph node) (with_dropped drops.now (with_downed marks.now (moments_of own))) barriers) }
+    {
+        self.ins.barriers_after(marks, drops)
+    }
+
     /// The barriers after these links have gone down, one after the other.
     pub fn barriers_without(&self, marks: &DownList) -> Result<Barriers, NoMemory>
         ensures { IfOk result (λ barriers. (graph : Graph) (node : ℕ) (own : List ARecord) → Stands graph node own self.now
@@ -156,13 +209,13 @@ impl Links {
     pub fn put_on_way(&self, packet: Packet, step: &mut Step) -> Result<(), NoMemory>
         requires room { step.old.unrouted < 4294967295 }
         ensures ok { OnOk result ((graph : Graph) (node : ℕ) (own : List ARecord) → Stands graph node own self.now
-            → step.new ≡ with_ways (route graph [] node) (packet ∷ []) step.old) }
+            → step.new ≡ with_ways (route graph (known_drops own) node) (packet ∷ []) step.old) }
         ensures err { OnErr result (step.new ≡ step.old) }
     {
-        step.put_on_way(&self.routes, packet)
+        step.put_on_way(&self.ways.routes, packet)
     }
 
-    /// Puts a beacon with these barriers on each link out of the node.
+    /// Puts a beacon with these barriers on each link out of the node that is not known as dropped.
     pub fn put_beacons(
         &self,
         alloc: Global,
@@ -170,18 +223,47 @@ impl Links {
         commit: Ts,
         step: &mut Step,
     ) -> Result<(), NoMemory>
-        ensures ok { OnOk result (step.new ≡ with_beacons self.now.outs (record { be = be.0; commit = commit.0 }) step.old) }
+        ensures ok { OnOk result (step.new ≡ with_beacons self.now.ways.outs (record { be = be.0; commit = commit.0 }) step.old) }
         ensures err { OnErr result (PutsAlone step.old step.new) }
     {
-        step.put_beacons(alloc, self.outs.as_slice(), be, commit)
+        step.put_beacons(alloc, self.ways.outs.as_slice(), be, commit)
     }
 
-    /// Takes over what a record of the node's own did to its in-links. Takes no memory.
+    /// Tells the controller how many links are known as dropped, where there are any.
+    pub fn tell_gone(&self, told: &mut AddressedList) -> Result<(), NoMemory>
+        ensures ok { OnOk result ((graph : Graph) (node : ℕ) (own : List ARecord) → Stands graph node own self.now
+            → told.new ≡ told.old ++ gone_told node own) }
+        ensures err { OnErr result (told.new ≡ told.old) }
+    {
+        let count = self.ways.known.count();
+        if count == 0 {
+            return Ok(());
+        }
+        told.push(Addressed {
+            to: To::Controller,
+            control: Control::Gone {
+                node: self.node,
+                count,
+            },
+        })
+    }
+
+    /// Takes over what a record of the node's own did to its links. Takes no memory.
     pub fn follow(&mut self, made: &Record)
-        ensures { (graph : Graph) (node : ℕ) (own : List ARecord) → Stands graph node own self.old → ComesIn graph node made.now.event
+        ensures { (graph : Graph) (node : ℕ) (own : List ARecord) → StandsWith graph node own made.now self.old → ComesIn graph node made.now.event
             → IsNodeStep graph node own made.now → Stands graph node (made.now ∷ own) self.new }
     {
         follow(&mut self.ins, made);
+        if let Some(ways) = self.ahead.take() {
+            self.ways = ways;
+        }
+    }
+
+    /// Gives back what was set aside for a step that was worked out and is refused. Takes no memory.
+    pub fn undo(&mut self)
+        ensures { self.new ≡ record self.old { ahead = None } }
+    {
+        self.ahead = None;
     }
 
     pub fn try_clone(&self) -> Result<Links, NoMemory>
@@ -190,22 +272,10 @@ impl Links {
         Ok(Links {
             node: self.node,
             ins: self.ins.try_clone()?,
-            outs: copy_links(&self.outs)?,
-            routes: self.routes.try_clone()?,
+            ways: self.ways.clone()?,
+            ahead: self.ahead.clone()?,
         })
     }
-}
-
-fn list_of(alloc: Global, links: &[LinkId]) -> Result<List<LinkId>, NoMemory>
-    ensures { IfOk result (λ list. list ≡ links.now) }
-{
-    Ok(List::from_vec(links.to_vec(alloc)?))
-}
-
-fn copy_links(links: &List<LinkId>) -> Result<List<LinkId>, NoMemory>
-    ensures { IfOk result (λ copy. copy ≡ links.now) }
-{
-    Ok(links.clone()?)
 }
 
 /// Takes over what a record did to the in-links.
@@ -217,7 +287,10 @@ fn follow(ins: &mut InLinks, made: &Record)
         Some(receipt) => ins.receive(receipt.link, receipt.be, receipt.commit),
         None => match tick_of(&made.event) {
             Some(now) => ins.tick(now, made.step.downed()),
-            None => ins.down(made.step.downed()),
+            None => {
+                ins.down(made.step.downed());
+                ins.remove(made.step.dropped());
+            }
         },
     }
 }

@@ -5,6 +5,7 @@ pub mod Links
 pub mod Marks
 pub mod Own
 pub mod Promises
+pub mod Recalls
 pub mod Rising
 pub mod Stamps
 pub mod Steps

@@ -1,7 +1,10 @@
 -- A host's reliable scatterings rise, what is settled stays settled, and what a node promises never falls.
-use Rattle.std.proofs.Common.{◌≡◌, ℕ, ◌<◌, ◌≤◌, ◌+◌, not, Bool, true, false, if◌then◌else◌, List, [], ◌∷◌, filter, Option, None, Some, refl, sym, subst, ap, ◌∙◌, arith}
+use Rattle.std.proofs.Common.{◌≡◌, ℕ, ◌<◌, ◌≤◌, ◌+◌, not, Bool, true, false, if◌then◌else◌, List, [], ◌∷◌, ◌++◌, ◌==◌, ◌||◌, Option, None, Some, refl, sym, subst, ap, ◌∙◌, arith}
 use Rattle.std.specs.List.{All}
-use Rattle.std.proofs.lemmas.List.Elements.{All-nil, All-cons, All-weaker, All-append, All-filter, filter-append}
+use Rattle.std.proofs.lemmas.List.{append-nil}
+use Rattle.std.proofs.lemmas.List.Folds.{list_any-append}
+use Rattle.std.proofs.lemmas.List.Elements.{All-nil, All-cons, All-weaker, All-append, All-filter}
+use Rattle.pipe_base.specs.declared.control.Announced.{Announced}
 use Rattle.pipe_base.specs.declared.message.Service.TheVariants.{Reliable}
 use Rattle.pipe_base.specs.declared.name.HostId.{HostId}
 use Rattle.pipe_base.specs.declared.name.Ts.{Ts}
@@ -9,31 +12,54 @@ use Rattle.pipe_base.specs.declared.packet.Packet.{Packet}
 use Rattle.pipe_base.specs.declared.packet.Plane.{Plane}
 use Rattle.pipe_base.specs.declared.packet.Plane.TheVariants as planes
 use Rattle.pipe_base.specs.Clock.{after_stamp}
+use Rattle.pipe_base.specs.Failed.{is_announced}
 use Rattle.pipe_base.specs.Graph.{Graph, is_host}
-use Rattle.pipe_base.specs.Scattering.{Scattering, SenderCall, Began, Acked, AreRising, begun}
-use Rattle.pipe_base.specs.Settled.{is_settled, unsettled}
-use Rattle.pipe_base.proofs.SenderLaws.{least_above, least_below_next, least_of_each, rising_more, settled_stays, unsettled_left}
+use Rattle.pipe_base.specs.Scattering.{Scattering, SenderCall, Began, Acked, Noted, RecallAcked, AreRising, begun}
+use Rattle.pipe_base.specs.Settled.{is_noted, is_settled, unsettled}
+use Rattle.pipe_base.proofs.SenderLaws.{BeginsFrom, least_above, least_below_next, least_of_each, left_from, rising_more, settled_stays}
 use Rattle.pipe_model.specs.declared.event.Event.{Event}
 use Rattle.pipe_model.specs.declared.event.Event.TheVariants.{Send}
 use Rattle.pipe_model.specs.declared.record.Record.{Record}
 use Rattle.pipe_model.specs.Clock.{next, promise}
 use Rattle.pipe_model.specs.Got.{gets}
-use Rattle.pipe_model.specs.Moments.{barrier_at}
+use Rattle.pipe_model.specs.Moments.{barrier_at, noted_hosts}
 use Rattle.pipe_model.specs.NodePromise.{host_promise, node_promise}
 use Rattle.pipe_model.specs.Run.{IsNodeHistory, IsNodeStep}
-use Rattle.pipe_model.specs.Sender.{is_ack, sender_calls, with_answer, with_begun}
+use Rattle.pipe_model.specs.Sender.{is_ack, is_recall_ack, sender_calls, with_answer, with_begun, with_noted}
 use Rattle.pipe_model.proofs.Rising.{barrier_rises}
 use Rattle.pipe_model.proofs.Stamps.{stamp_above}
 
 -- ---- a property of a sender's calls, one record on
 
-answered : (P : List SenderCall → Type 0) (past : List SenderCall) (b : Bool) (ts host : ℕ) → P past → P (Acked ts host ∷ past) → P (if b then Acked ts host ∷ past else past)
-answered P past true ts host same more = more
-answered P past false ts host same more = same
+-- the call begins no scattering
+abbrev pub BeginsNone : SenderCall → Type 0
+BeginsNone (Began s) = ⊥
+BeginsNone _ = Unit {0}
 
-with_answer_by : (P : List SenderCall → Type 0) (o : Option Packet) (past : List SenderCall) → P past → ((ts host : ℕ) → P (Acked ts host ∷ past)) → P (with_answer o past)
-with_answer_by P None past same more = same
-with_answer_by P (Some p) past same more = answered P past (is_ack p.kind) p.ts.0 p.src.0 same (more p.ts.0 p.src.0)
+pub begun_same : (c : SenderCall) (past : List SenderCall) → BeginsNone c → begun (c ∷ past) ≡ begun past
+begun_same (Began s) past none = absurd none
+begun_same (Acked ts host) past none = refl
+begun_same (Noted failed) past none = refl
+begun_same (RecallAcked ts host) past none = refl
+
+-- what the property asks of all other calls
+abbrev pub WhereNoneBegun : (List SenderCall → Type 0) → Type 0
+WhereNoneBegun P = (past : List SenderCall) (c : SenderCall) → BeginsNone c → P past → P (c ∷ past)
+
+answered : (P : List SenderCall → Type 0) (past : List SenderCall) (ack recall_ack : Bool) (ts host : ℕ) → P past → P (Acked ts host ∷ past) → P (RecallAcked ts host ∷ past)
+    → P (if ack then Acked ts host ∷ past else if recall_ack then RecallAcked ts host ∷ past else past)
+answered P past true recall_ack ts host same acked taken = acked
+answered P past false true ts host same acked taken = taken
+answered P past false false ts host same acked taken = same
+
+with_answer_by : (P : List SenderCall → Type 0) (o : Option Packet) (past : List SenderCall) → WhereNoneBegun P → P past → P (with_answer o past)
+with_answer_by P None past others same = same
+with_answer_by P (Some p) past others same =
+    answered P past (is_ack p.kind) (is_recall_ack p.kind) p.ts.0 p.src.0 same (others past (Acked p.ts.0 p.src.0) tt same) (others past (RecallAcked p.ts.0 p.src.0) tt same)
+
+with_noted_by : (P : List SenderCall → Type 0) (noted new : List Announced) (past : List SenderCall) → WhereNoneBegun P → P past → P (with_noted noted new past)
+with_noted_by P noted [] past others same = same
+with_noted_by P noted (a ∷ more) past others same = others past (Noted noted) tt same
 
 -- what the property asks where the event begins a scattering
 abbrev pub WhereBegun : (List SenderCall → Type 0) → Event → Option Ts → List SenderCall → Type 0
@@ -46,13 +72,55 @@ with_begun_by : (P : List SenderCall → Type 0) (event : Event) (stamp : Option
 with_begun_by P (Send host Reliable now dests) (Some ts) past same more = more host now ts dests refl refl
 with_begun_by P _ _ past same more = same
 
--- where a scattering that is begun keeps the property, and an acknowledgement does, a record does
+-- where a scattering that is begun keeps the property, and so do all other calls, a record does
 pub calls_after : (P : List SenderCall → Type 0) (graph : Graph) (node : ℕ) (own : List Record) (r : Record) → WhereBegun P r.event r.step.stamped (sender_calls graph node own)
-    → ((past : List SenderCall) (ts host : ℕ) → P past → P (Acked ts host ∷ past)) → P (sender_calls graph node own) → P (sender_calls graph node (r ∷ own))
-calls_after P graph node own r begins answers before =
-    let calls : List SenderCall = sender_calls graph node own in
-    let now : P (with_begun r.event r.step.stamped calls) = with_begun_by P r.event r.step.stamped calls before begins in
-    with_answer_by P (gets graph node own r) (with_begun r.event r.step.stamped calls) now (λ ts host. answers (with_begun r.event r.step.stamped calls) ts host now)
+    → WhereNoneBegun P → P (sender_calls graph node own) → P (sender_calls graph node (r ∷ own))
+calls_after P graph node own r begins others before =
+    let first : List SenderCall = with_begun r.event r.step.stamped (sender_calls graph node own) in
+    let answers : List SenderCall = with_answer (gets graph node own r) first in
+    with_noted_by P (noted_hosts (r ∷ own)) r.step.noted answers others
+    (with_answer_by P (gets graph node own r) first others (with_begun_by P r.event r.step.stamped (sender_calls graph node own) before begins))
+
+-- a property of the scatterings that were begun asks nothing of other calls
+pub begun_after : (P : List Scattering → Type 0) (graph : Graph) (node : ℕ) (own : List Record) (r : Record)
+    → WhereBegun (λ c. P (begun c)) r.event r.step.stamped (sender_calls graph node own) → P (begun (sender_calls graph node own)) → P (begun (sender_calls graph node (r ∷ own)))
+begun_after P graph node own r begins before =
+    calls_after (λ (c : List SenderCall). P (begun c)) graph node own r begins (λ past c none same. subst P (sym (begun_same c past none)) same) before
+
+-- ---- the sender was told of all failed hosts that are noted
+
+begun_notes : (event : Event) (stamp : Option Ts) (past : List SenderCall) (host : ℕ) → is_noted (with_begun event stamp past) host ≡ is_noted past host
+begun_notes event stamp past host = with_begun_by (λ (c : List SenderCall). is_noted c host ≡ is_noted past host) event stamp past refl (λ h now ts dests e s. refl)
+
+answer_by_kind : (ack recall_ack : Bool) (ts from : ℕ) (past : List SenderCall) (host : ℕ)
+    → is_noted (if ack then Acked ts from ∷ past else if recall_ack then RecallAcked ts from ∷ past else past) host ≡ is_noted past host
+answer_by_kind true recall_ack ts from past host = refl
+answer_by_kind false true ts from past host = refl
+answer_by_kind false false ts from past host = refl
+
+answer_notes : (o : Option Packet) (past : List SenderCall) (host : ℕ) → is_noted (with_answer o past) host ≡ is_noted past host
+answer_notes None past host = refl
+answer_notes (Some p) past host = answer_by_kind (is_ack p.kind) (is_recall_ack p.kind) p.ts.0 p.src.0 past host
+
+or_again : (a b : Bool) → ((a || b) || a) ≡ (a || b)
+or_again true b = refl
+or_again false true = refl
+or_again false false = refl
+
+noted_both : (host : ℕ) (old new : List Announced) (past : List SenderCall) → is_noted past host ≡ is_announced host old
+    → is_noted (with_noted (old ++ new) new past) host ≡ is_announced host (old ++ new)
+noted_both host old [] past before = before ∙ ap (is_announced host) (sym (append-nil old))
+noted_both host old (a ∷ more) past before =
+    let both : is_announced host (old ++ a ∷ more) ≡ (is_announced host old || is_announced host (a ∷ more)) = list_any-append (λ (x : Announced). x.host.0 == host) old (a ∷ more) in
+    ap (λ (b : Bool). b || is_noted past host) both ∙ ap (λ (b : Bool). (is_announced host old || is_announced host (a ∷ more)) || b) before
+    ∙ or_again (is_announced host old) (is_announced host (a ∷ more)) ∙ sym both
+
+pub noted_is : (graph : Graph) (node : ℕ) (own : List Record) (host : ℕ) → is_noted (sender_calls graph node own) host ≡ is_announced host (noted_hosts own)
+noted_is graph node [] host = refl
+noted_is graph node (r ∷ own) host =
+    let first : List SenderCall = with_begun r.event r.step.stamped (sender_calls graph node own) in
+    noted_both host (noted_hosts own) r.step.noted (with_answer (gets graph node own r) first)
+    (answer_notes (gets graph node own r) first host ∙ begun_notes r.event r.step.stamped (sender_calls graph node own) host ∙ noted_is graph node own host)
 
 -- ---- scatterings and their timestamps
 
@@ -62,7 +130,7 @@ pub settled_still : (graph : Graph) (node : ℕ) (own : List Record) (r : Record
 settled_still graph node own r s is =
     calls_after (λ (c : List SenderCall). is_settled c s ≡ true) graph node own r
     (λ host now ts dests event stamp. settled_stays (Began (record { ts = ts; dests = dests })) (sender_calls graph node own) s is)
-    (λ past ts host before. settled_stays (Acked ts host) past s before) is
+    (λ past c none before. settled_stays c past s before) is
 
 -- stamps are below the next timestamp, and not below that before
 pub stamp_below : (own : List Record) (r : Record) (ts : Ts) → r.step.stamped ≡ Some ts → ts.0 < next (r ∷ own)
@@ -86,11 +154,11 @@ begun_below_next graph node (r ∷ own) =
     let rises = next_rises own r in
     let before : BegunBelow bound calls =
     All-weaker (λ (s : Scattering). s.ts.0 < next own) (λ (s : Scattering). s.ts.0 < bound) (λ (s : Scattering) lt. omega (arith, lt, rises)) (begun calls) (begun_below_next graph node own) in
-    calls_after (BegunBelow bound) graph node own r
+    begun_after (λ (ss : List Scattering). All (λ s. s.ts.0 < bound) ss) graph node own r
     (λ host now ts dests event stamp.
     All-append (λ (s : Scattering). s.ts.0 < bound) (begun calls) (record { ts = ts; dests = dests } ∷ []) before
     (All-cons (λ (s : Scattering). s.ts.0 < bound) (record { ts = ts; dests = dests }) [] (stamp_below own r ts stamp) (All-nil (λ (s : Scattering). s.ts.0 < bound))))
-    (λ past ts host all. all) before
+    before
 
 -- scatterings rise
 pub begun_rise : (graph : Graph) (node : ℕ) (own : List Record) → IsNodeHistory graph node own → AreRising (begun (sender_calls graph node own))
@@ -98,12 +166,12 @@ begun_rise graph node [] history = tt
 begun_rise graph node (r ∷ own) history =
     let calls = sender_calls graph node own in
     let before = begun_rise graph node own history.0 in
-    calls_after (λ (c : List SenderCall). AreRising (begun c)) graph node own r
+    begun_after AreRising graph node own r
     (λ host now ts dests event stamp.
     let above = stamped_above graph node own r ts history.1 stamp in
     rising_more (begun calls) (record { ts = ts; dests = dests }) before
     (All-weaker (λ (s : Scattering). s.ts.0 < next own) (λ (s : Scattering). s.ts.0 < ts.0) (λ (s : Scattering) lt. omega (arith, lt, above)) (begun calls) (begun_below_next graph node own)))
-    (λ past ts host rising. rising) before
+    before
 
 -- ---- the promise of a host
 
@@ -121,12 +189,11 @@ promise_bounds graph node own = least_of_each (next own) (unsettled (sender_call
 abbrev LeftAbove : ℕ → List SenderCall → Type 0
 LeftAbove bound calls = All (λ s. bound ≤ s.ts.0) (unsettled calls)
 
-left_begun : (bound : ℕ) (s : Scattering) (calls : List SenderCall) → bound ≤ s.ts.0 → LeftAbove bound calls → LeftAbove bound (Began s ∷ calls)
-left_begun bound s calls above all =
-    let P : Scattering → Type 0 = λ t. bound ≤ t.ts.0 in
-    let left : Scattering → Bool = λ t. not (is_settled (Began s ∷ calls) t) in
-    subst (All P) (sym (filter-append left (begun calls) (s ∷ [])))
-    (All-append P (filter left (begun calls)) (filter left (s ∷ [])) (unsettled_left (Began s) calls P (begun calls) all) (All-filter left P (s ∷ []) (All-cons P s [] above (All-nil P))))
+none_from : (bound : ℕ) (c : SenderCall) → BeginsNone c → BeginsFrom bound c
+none_from bound (Began s) none = absurd none
+none_from bound (Acked ts host) none = tt
+none_from bound (Noted failed) none = tt
+none_from bound (RecallAcked ts host) none = tt
 
 pub promise_rises : (graph : Graph) (node : ℕ) (own : List Record) (r : Record) → IsNodeStep graph node own r → promise graph node own ≤ promise graph node (r ∷ own)
 promise_rises graph node own r step =
@@ -138,8 +205,8 @@ promise_rises graph node own r step =
     calls_after (LeftAbove bound) graph node own r
     (λ host now ts dests event stamp.
     let above = stamped_above graph node own r ts step stamp in
-    left_begun bound (record { ts = ts; dests = dests }) calls (omega (arith, above, within)) before)
-    (λ past ts host all. unsettled_left (Acked ts host) past (λ (s : Scattering). bound ≤ s.ts.0) (begun past) all) before in
+    left_from bound (Began (record { ts = ts; dests = dests })) calls (omega (arith, above, within)) before)
+    (λ past c none all. left_from bound c past (none_from bound c none) all) before in
     least_above bound (next (r ∷ own)) (unsettled (sender_calls graph node (r ∷ own))) (omega (arith, within, next_rises own r)) after
 
 -- ---- what any node promises

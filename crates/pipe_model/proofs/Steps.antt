@@ -1,23 +1,25 @@
 -- What a record of a node's own does to its in-links.
 use Rattle.std.proofs.Common.{◌≡◌, ℕ, ◌==◌, ◌&&◌, if◌then◌else◌, nat_le, nat_lt, Bool, true, false, List, [], ◌∷◌, ◌++◌, Option, None, Some, filter, refl, ap, ◌∙◌, arith, eq-eqb}
 use Rattle.std.proofs.lemmas.Bool.Decides.{nat_tests}
+use Rattle.std.proofs.lemmas.List.{append-nil}
 use Rattle.pipe_base.specs.declared.name.LinkId.{LinkId}
+use Rattle.pipe_base.specs.declared.name.Ts.{Ts}
 use Rattle.pipe_base.specs.declared.packet.Packet.{Packet}
 use Rattle.pipe_base.specs.declared.message.Service.{Service}
 use Rattle.pipe_base.specs.declared.message.Service.TheVariants.{BestEffort, Reliable}
 use Rattle.pipe_base.specs.Graph.{Graph, is_half, is_host}
-use Rattle.pipe_base.specs.Moment.{Moment, is_up, with_received, with_downed}
+use Rattle.pipe_base.specs.Moment.{Moment, is_up, with_received, with_downed, with_dropped}
 use Rattle.pipe_base.specs.ShortestRoute.{not_dropped}
 use Rattle.pipe_base.proofs.MessageLaws.{filter_all}
 use Rattle.pipe_model.specs.declared.event.Event.{Event}
-use Rattle.pipe_model.specs.declared.event.Event.TheVariants.{Take}
+use Rattle.pipe_model.specs.declared.event.Event.TheVariants.{Take, Tick}
 use Rattle.pipe_model.specs.declared.record.Record.{Record}
 use Rattle.pipe_model.specs.declared.record.Took.{Took}
 use Rattle.pipe_model.specs.declared.record.Took.TheVariants.{Link}
 use Rattle.pipe_model.specs.Fate.{fate, held}
 use Rattle.pipe_model.specs.Got.{gets_of, got, message_of}
 use Rattle.pipe_model.specs.Logged.{logged}
-use Rattle.pipe_model.specs.Marks.{downed, downed_by}
+use Rattle.pipe_model.specs.Marks.{downed, downed_by, drops_by, newly_dropped}
 use Rattle.pipe_model.specs.Moments.{known_drops, moments_of, received, received_of, tick_of}
 use Rattle.pipe_model.specs.Run.{IsNodeStep}
 
@@ -88,21 +90,51 @@ marks_nothing_by graph node own _ took q is = cc
 pub receipt_marks_nothing : (graph : Graph) (node : ℕ) (own : List Record) (r : Record) (q : ℕ × Packet) → received own r ≡ Some q → downed graph node own r ≡ []
 receipt_marks_nothing graph node own r q is = marks_nothing_by graph node own r.event r.took q is
 
+received_drops_by : (past : List Moment) (known : List LinkId) (event : Event) (took : Took) (q : ℕ × Packet) → received_of past event took ≡ Some q → drops_by known event took ≡ []
+received_drops_by past known (Take link place keep) took q is = refl
+received_drops_by past known _ took q is = cc
+
+-- nor drops one
+pub receipt_drops_nothing : (graph : Graph) (node : ℕ) (own : List Record) (r : Record) (q : ℕ × Packet) → received own r ≡ Some q → newly_dropped graph node own r ≡ []
+receipt_drops_nothing graph node own r q is = received_drops_by (moments_of own) (known_drops own) r.event r.took q is
+
+tick_drops_by : (known : List LinkId) (event : Event) (took : Took) (now : Ts) → tick_of event ≡ Some now → drops_by known event took ≡ []
+tick_drops_by known (Tick node reading) took now is = refl
+tick_drops_by known _ took now is = cc
+
+-- a tick drops no link
+pub tick_drops_nothing : (graph : Graph) (node : ℕ) (own : List Record) (r : Record) (now : Ts) → tick_of r.event ≡ Some now → newly_dropped graph node own r ≡ []
+tick_drops_nothing graph node own r now is = tick_drops_by (known_drops own) r.event r.took now is
+
 -- the moments of a record that receives
 pub moments_received : (graph : Graph) (node : ℕ) (own : List Record) (r : Record) (q : ℕ × Packet) → IsNodeStep graph node own r
     → received own r ≡ Some q → moments_of (r ∷ own) ≡ with_received true (Some q) (moments_of own)
 moments_received graph node own r q step is =
     let down : r.step.downed ≡ [] = step.downed_is ∙ receipt_marks_nothing graph node own r q is in
-    let drop : r.step.dropped ≡ [] = step.dropped_is in
+    let drop : r.step.dropped ≡ [] = step.dropped_is ∙ receipt_drops_nothing graph node own r q is in
     rw (drop, down, is) refl
 
--- the moments of a record that receives nothing
-pub moments_marked : (graph : Graph) (node : ℕ) (own : List Record) (r : Record) → IsNodeStep graph node own r → received own r ≡ None
-    → moments_of (r ∷ own) ≡ with_downed r.step.downed (moments_of own)
-moments_marked graph node own r step is =
-    let drop : r.step.dropped ≡ [] = step.dropped_is in
-    rw (drop, is) refl
+-- the moments of a record that receives nothing: links go down, then links are dropped
+pub moments_marked : (own : List Record) (r : Record) → received own r ≡ None
+    → moments_of (r ∷ own) ≡ with_dropped r.step.dropped (with_downed r.step.downed (moments_of own))
+moments_marked own r is = rw is refl
 
--- no link is dropped in it
-pub drops_same : (graph : Graph) (node : ℕ) (own : List Record) (r : Record) → IsNodeStep graph node own r → known_drops own ≡ [] → known_drops (r ∷ own) ≡ []
-drops_same graph node own r step none = ap (λ (ls : List LinkId). ls ++ r.step.dropped) none ∙ step.dropped_is
+-- where it drops none
+pub moments_downed : (own : List Record) (r : Record) → received own r ≡ None → r.step.dropped ≡ []
+    → moments_of (r ∷ own) ≡ with_downed r.step.downed (moments_of own)
+moments_downed own r is none = rw (none, is) refl
+
+-- where it takes none down
+pub moments_dropped : (own : List Record) (r : Record) → received own r ≡ None → r.step.downed ≡ []
+    → moments_of (r ∷ own) ≡ with_dropped r.step.dropped (moments_of own)
+moments_dropped own r is none = rw (none, is) refl
+
+-- the links that are known as dropped grow by those that the record drops
+pub drops_more : (graph : Graph) (node : ℕ) (own : List Record) (r : Record) → IsNodeStep graph node own r
+    → known_drops (r ∷ own) ≡ known_drops own ++ newly_dropped graph node own r
+drops_more graph node own r step = ap (λ (ls : List LinkId). known_drops own ++ ls) step.dropped_is
+
+-- and stay where it drops none
+pub drops_same : (graph : Graph) (node : ℕ) (own : List Record) (r : Record) → IsNodeStep graph node own r → newly_dropped graph node own r ≡ []
+    → known_drops (r ∷ own) ≡ known_drops own
+drops_same graph node own r step none = drops_more graph node own r step ∙ ap (λ (ls : List LinkId). known_drops own ++ ls) none ∙ append-nil (known_drops own)

@@ -1,5 +1,5 @@
 -- No more scatterings of a host are unsettled than the window has: a send that would be one more is refused.
-use Rattle.std.proofs.Common.{◌≡◌, ℕ, ◌+◌, ◌*◌, ◌<◌, ◌≤◌, nat_le, not, Bool, true, false, if◌then◌else◌, List, [], ◌∷◌, length, filter, Option, None, Some, refl, sym, subst, ap, ◌∙◌, arith, le_trans}
+use Rattle.std.proofs.Common.{◌≡◌, ℕ, ◌+◌, ◌*◌, ◌<◌, ◌≤◌, nat_le, not, Bool, true, false, if◌then◌else◌, List, [], ◌∷◌, length, map, filter, Option, None, Some, refl, sym, subst, ap, ◌∙◌, arith}
 use Rattle.std.specs.Prelude.{flat_map}
 use Rattle.std.specs.List.{All}
 use Rattle.std.proofs.lemmas.Bool.Decides.{nat_tests}
@@ -9,13 +9,14 @@ use Rattle.std.proofs.lemmas.List.Elements.{All-nil, All-cons, All-append, All-f
 use Rattle.pipe_base.specs.declared.message.Service.TheVariants.{Reliable}
 use Rattle.pipe_base.specs.declared.name.HostId.{HostId}
 use Rattle.pipe_base.specs.declared.name.Ts.{Ts}
+use Rattle.pipe_base.specs.declared.packet.Packet.{Packet}
 use Rattle.pipe_base.specs.Clock.{stamp_at}
 use Rattle.pipe_base.specs.Graph.{Graph}
 use Rattle.pipe_base.specs.Limits.{most_receivers, most_unsettled}
-use Rattle.pipe_base.specs.Packets.{Fields, prepare_to}
+use Rattle.pipe_base.specs.Packets.{Fields, prepare_to, recall_to}
 use Rattle.pipe_base.specs.Resends.{resends, resends_for}
-use Rattle.pipe_base.specs.Scattering.{Scattering, SenderCall, Began, Acked, begun}
-use Rattle.pipe_base.specs.Settled.{is_acked, is_settled, unsettled}
+use Rattle.pipe_base.specs.Scattering.{Scattering, SenderCall, Began, begun}
+use Rattle.pipe_base.specs.Settled.{awaits, is_acked, is_recalled, is_settled, unsettled}
 use Rattle.pipe_base.proofs.SenderLaws.{settled_stays}
 use Rattle.pipe_model.specs.declared.event.Event.{Event}
 use Rattle.pipe_model.specs.declared.event.Event.TheVariants.{Send}
@@ -26,7 +27,7 @@ use Rattle.pipe_model.specs.Moments.{noted_hosts}
 use Rattle.pipe_model.specs.OwnOutcome.{first_failed, is_window_full, send_outcome, stamped, where_ok}
 use Rattle.pipe_model.specs.Run.{IsNodeHistory, IsNodeStep}
 use Rattle.pipe_model.specs.Sender.{sender_calls}
-use Rattle.pipe_model.proofs.Promises.{calls_after}
+use Rattle.pipe_model.proofs.Promises.{begun_after, begun_same, calls_after}
 
 -- ---- a call leaves no more unsettled than there were, but for one that it begins
 
@@ -59,8 +60,11 @@ begun_few s calls free =
     ap length (filter-append left (begun calls) (s ∷ [])) ∙ length-append (filter left (begun calls)) (filter left (s ∷ [])) in
     omega (arith, both, fewer_left (Began s) calls (begun calls), one_at_most (left s) s, free)
 
-acked_few : (ts host : ℕ) (calls : List SenderCall) → AreFew calls → AreFew (Acked ts host ∷ calls)
-acked_few ts host calls few = le_trans (fewer_left (Acked ts host) calls (begun calls)) few
+-- a call that begins none leaves few
+kept_few : (c : SenderCall) (calls : List SenderCall) → begun (c ∷ calls) ≡ begun calls → AreFew calls → AreFew (c ∷ calls)
+kept_few c calls same few =
+    let left : length (unsettled (c ∷ calls)) ≡ length (filter (is_left (c ∷ calls)) (begun calls)) = ap (λ (ss : List Scattering). length (filter (is_left (c ∷ calls)) ss)) same in
+    omega (arith, left, fewer_left c calls (begun calls), few)
 
 -- ---- a reliable send that is stamped found the window open
 
@@ -88,7 +92,7 @@ unsettled_few graph node (r ∷ own) history =
     calls_after AreFew graph node own r
     (λ host now ts dests event stamp.
     begun_few (record { ts = ts; dests = dests }) (sender_calls graph node own) (started_few graph node own r host now ts dests history.1 event stamp))
-    (λ past ts host few. acked_few ts host past few) (unsettled_few graph node own history.0)
+    (λ past c none few. kept_few c past (begun_same c past none) few) (unsettled_few graph node own history.0)
 
 -- ---- so a tick puts few messages again
 
@@ -102,18 +106,28 @@ dests_few graph node (r ∷ own) known =
     let calls : List SenderCall = sender_calls graph node own in
     let here : IsOfGraph graph r.event = All-head (λ (x : Record). IsOfGraph graph x.event) r own known in
     let before : All HasFewDests (begun calls) = dests_few graph node own (All-tail (λ (x : Record). IsOfGraph graph x.event) r own known) in
-    calls_after (λ (c : List SenderCall). All HasFewDests (begun c)) graph node own r
+    begun_after (λ (ss : List Scattering). All HasFewDests ss) graph node own r
     (λ host now ts dests event stamp.
     let can : IsOfGraph graph (Send host Reliable now dests) = subst (IsOfGraph graph) event here in
     let s : Scattering = record { ts = ts; dests = dests } in
     All-append HasFewDests (begun calls) (s ∷ []) before (All-cons HasFewDests s [] can.receivers.few (All-nil HasFewDests)))
-    (λ past ts host all. all) before
+    before
+
+put_few : (to : HostId × List ℕ → Packet) (test : HostId × List ℕ → Bool) (ds : List (HostId × List ℕ)) → length ds ≤ most_receivers → length (map to (filter test ds)) ≤ most_receivers
+put_few to test ds few =
+    let count : length (map to (filter test ds)) ≡ length (filter test ds) = length-map (filter test ds) to in
+    omega (arith, count, length-filter test ds, count_by-le-length test ds, few)
+
+either_few : (b : Bool) (xs ys : List Packet) → length xs ≤ most_receivers → length ys ≤ most_receivers → length (if b then xs else ys) ≤ most_receivers
+either_few true xs ys first second = first
+either_few false xs ys first second = second
 
 resent_few : (calls : List SenderCall) (src : HostId) (f : Fields) (s : Scattering) → HasFewDests s → length (resends_for calls src f s) ≤ most_receivers
 resent_few calls src f s few =
+    let waits : HostId × List ℕ → Bool = λ d. awaits calls s d.0.0 in
     let open_to : HostId × List ℕ → Bool = λ d. not (is_acked calls s.ts.0 d.0.0) in
-    let count : length (resends_for calls src f s) ≡ length (filter open_to s.dests) = length-map (filter open_to s.dests) (prepare_to src s.ts f) in
-    omega (arith, count, length-filter open_to s.dests, count_by-le-length open_to s.dests, few)
+    either_few (is_recalled calls s) (map (recall_to src s.ts f) (filter waits s.dests)) (map (prepare_to src s.ts f) (filter open_to s.dests))
+    (put_few (recall_to src s.ts f) waits s.dests few) (put_few (prepare_to src s.ts f) open_to s.dests few)
 
 each_few : (calls : List SenderCall) (src : HostId) (f : Fields) (ss : List Scattering) → All HasFewDests ss
     → length (flat_map (resends_for calls src f) ss) ≤ length ss * most_receivers

@@ -1,6 +1,5 @@
 -- The controller along a run: what it knows after a history, and what a decision does.
 use Rattle.std.specs.Prelude.{ℕ, Bool, List, [], ◌∷◌}
-use Rattle.pipe_base.specs.declared.control.Addressed.{Addressed}
 use Rattle.pipe_base.specs.declared.control.Announced.{Announced}
 use Rattle.pipe_base.specs.declared.control.Control.{Control}
 use Rattle.pipe_base.specs.declared.control.To.{To}
@@ -16,17 +15,17 @@ use Rattle.pipe_model.specs.declared.event.Event.TheVariants.{ControlTake, Decid
 use Rattle.pipe_model.specs.declared.record.Record.{Record}
 use Rattle.pipe_model.specs.declared.record.Took.{Took}
 use Rattle.pipe_model.specs.declared.record.Took.TheVariants.{Message}
-use Rattle.pipe_model.specs.Decision.{after_announce, after_decision, after_doom, messages, newly_announced}
+use Rattle.pipe_model.specs.Decision.{after_announce, after_decision, after_doom, messages, newly_announced, newly_dead}
 use Rattle.pipe_model.specs.View.{View, after_message, first_view}
 
 -- a message to the controller tells it something, one to a node does not
-abbrev pub after_addressed : To → Control → View → View
-after_addressed Controller control v = after_message control v
-after_addressed _ control v = v
+abbrev pub after_addressed : Graph → To → Control → View → View
+after_addressed graph Controller control v = after_message graph control v
+after_addressed graph _ control v = v
 
 -- what the controller knows after an event: it takes what is addressed to it, and decides
 abbrev pub after_event : Graph → Event → Took → View → View
-after_event graph (ControlTake place keep) (Message a) v = after_addressed a.to a.control v
+after_event graph (ControlTake place keep) (Message a) v = after_addressed graph a.to a.control v
 after_event graph Decide took v = after_decision graph v
 after_event graph _ took v = v
 
@@ -35,10 +34,11 @@ abbrev pub view : Graph → List Record → View
 view graph [] = first_view graph
 view graph (r ∷ past) = after_event graph r.event r.took (view graph past)
 
--- what a decision does: the hosts that it announces, and the messages that it puts
+-- what a decision does: the hosts that it announces, the links that it drops, and the messages that it puts
 abbrev pub decision : Graph → View → Step
 decision graph v = record (quiet_step Ok) {
   noted = newly_announced graph (after_doom graph v);
+  dropped = newly_dead graph (after_announce graph (after_doom graph v));
   control = messages graph (after_decision graph v);
 }
 

@@ -1,21 +1,22 @@
 -- Which packets a node owes in a record, with the two barriers that they carry, and which control messages.
-use Rattle.std.specs.Prelude.{ℕ, ◌&&◌, if◌then◌else◌, List, [], ◌∷◌, ◌++◌, Option, None, Some, map, filter, flat_map}
+use Rattle.std.specs.Prelude.{ℕ, ◌&&◌, not, nat_lt, length, if◌then◌else◌, List, [], ◌∷◌, ◌++◌, Option, None, Some, map, filter, flat_map}
 use Rattle.pipe_base.specs.declared.message.Service.{Service}
 use Rattle.pipe_base.specs.declared.message.Service.TheVariants.{Reliable}
 use Rattle.pipe_base.specs.declared.name.HostId.{HostId}
 use Rattle.pipe_base.specs.declared.name.LinkId.{LinkId}
 use Rattle.pipe_base.specs.declared.name.Ts.{Ts}
 use Rattle.pipe_base.specs.declared.control.Addressed.{Addressed}
-use Rattle.pipe_base.specs.declared.control.Control.TheVariants.{Down}
+use Rattle.pipe_base.specs.declared.control.Control.TheVariants.{Done, Down, Gone}
 use Rattle.pipe_base.specs.declared.control.To.TheVariants.{Controller}
 use Rattle.pipe_base.specs.declared.packet.Packet.{Packet}
 use Rattle.pipe_base.specs.declared.packet.Plane.TheVariants as plane
 use Rattle.pipe_base.specs.declared.step.Fate.{Fate}
 use Rattle.pipe_base.specs.Fate.{is_holding}
 use Rattle.pipe_base.specs.Graph.{Graph, ins_of, is_host, outs_of}
-use Rattle.pipe_base.specs.Packets.{Fields, ack_to, beacon, forwarded, sent_to}
+use Rattle.pipe_base.specs.Packets.{Fields, ack_to, beacon, forwarded, recall_ack_to, sent_to}
 use Rattle.pipe_base.specs.Resends.{resends}
 use Rattle.pipe_base.specs.Scattering.{SenderCall}
+use Rattle.pipe_base.specs.Settled.{is_recalling}
 use Rattle.pipe_base.specs.ShortestRoute.{not_dropped, route}
 use Rattle.pipe_base.specs.Ways.{routed, lost}
 use Rattle.pipe_model.specs.declared.event.Event.{Event}
@@ -24,7 +25,8 @@ use Rattle.pipe_model.specs.declared.record.Record.{Record}
 use Rattle.pipe_model.specs.Clock.{next, promise}
 use Rattle.pipe_model.specs.Got.{carries, gets, is_beacon}
 use Rattle.pipe_model.specs.Marks.{mark}
-use Rattle.pipe_model.specs.Moments.{received, barrier_at, known_drops}
+use Rattle.pipe_model.specs.Moments.{received, barrier_at, known_drops, noted_hosts}
+use Rattle.pipe_model.specs.Recalls.{is_recall}
 use Rattle.pipe_model.specs.Sender.{sender_calls}
 
 -- packets of a send promise its stamp, all others of a host its next timestamp
@@ -48,17 +50,20 @@ abbrev pub owed_by_half : Fields → Option (ℕ × Packet) → List Packet
 owed_by_half f None = []
 owed_by_half f (Some q) = if is_beacon q.1.kind then [] else forwarded f q.1 ∷ []
 
--- a host owes an acknowledgement of the reliable message that it got, where it holds the message
+-- a host owes an acknowledgement of the reliable message that it got, where it holds the message, and always an answer to the
+-- taking back of one
 abbrev pub owed_by_host : ℕ → Fields → Option Fate → Option Packet → List Packet
 owed_by_host host f fate None = []
-owed_by_host host f fate (Some p) = if carries Reliable p.kind && is_holding fate then ack_to (record { 0 = host }) f p ∷ [] else []
+owed_by_host host f fate (Some p) =
+    if carries Reliable p.kind && is_holding fate then ack_to (record { 0 = host }) f p ∷ []
+    else if is_recall p.kind then recall_ack_to (record { 0 = host }) f p ∷ [] else []
 
 -- what is owed for the packet that a take brings
 abbrev pub owed_by_take : Graph → ℕ → Fields → List Record → Record → List Packet
 owed_by_take graph node f own r =
     if is_host graph node then owed_by_host node f r.step.fate (gets graph node own r) else owed_by_half f (received own r)
 
--- a host owes the messages again that were not acknowledged
+-- a host owes what was not answered again
 abbrev pub owed_by_tick : Graph → ℕ → Fields → List SenderCall → List Packet
 owed_by_tick graph node f calls = if is_host graph node then resends calls (record { 0 = node }) f else []
 
@@ -99,9 +104,20 @@ down_told l (Some value) = record { to = Controller; control = Down l value } �
 abbrev pub downs_told : Graph → ℕ → List Record → List Addressed
 downs_told graph node own = flat_map (λ l. down_told l (mark own l.0)) (filter (λ l. not_dropped (known_drops own) l.0) (ins_of graph node))
 
--- the control messages that a node owes after a record, by the event: each tick tells the marks again
+-- a host that noted failed hosts, and has nothing more to take back, tells how many it noted
+abbrev pub done_told : Graph → ℕ → List Record → List Addressed
+done_told graph node own =
+    if is_host graph node && (nat_lt 0 (length (noted_hosts own)) && not (is_recalling (sender_calls graph node own)))
+    then record { to = Controller; control = Done (record { 0 = node }) (length (noted_hosts own)) } ∷ [] else []
+
+-- a node that knows dropped links tells how many
+abbrev pub gone_told : ℕ → List Record → List Addressed
+gone_told node own =
+    if nat_lt 0 (length (known_drops own)) then record { to = Controller; control = Gone (record { 0 = node }) (length (known_drops own)) } ∷ [] else []
+
+-- the control messages that a node owes after a record, by the event: each tick tells them again
 abbrev pub control_of : Graph → ℕ → List Record → Event → List Addressed
-control_of graph node own (Tick n now) = downs_told graph node own
+control_of graph node own (Tick n now) = downs_told graph node own ++ done_told graph node own ++ gone_told node own
 control_of graph node own _ = []
 
 -- the control messages that the record puts

@@ -1,5 +1,5 @@
 -- No reliable message is late of itself: where one is late, its receiver knows what became of it.
-use Rattle.std.specs.Prelude.{◌≡◌, ◌⊎◌, ℕ, Bool, true, false, List, [], ◌∷◌, Some}
+use Rattle.std.specs.Prelude.{◌≡◌, ◌⊎◌, ℕ, true, List, [], ◌∷◌, Some}
 use Rattle.pipe_base.specs.declared.message.Key.{Key}
 use Rattle.pipe_base.specs.declared.message.Service.TheVariants.{Reliable}
 use Rattle.pipe_base.specs.declared.packet.Packet.{Packet}
@@ -13,10 +13,7 @@ use Rattle.pipe_model.specs.Fate.{held}
 use Rattle.pipe_model.specs.Got.{got, key_of}
 use Rattle.pipe_model.specs.Moments.{noted_hosts}
 use Rattle.pipe_model.specs.NeverLate.{is_late}
-
--- The host was told by the sender to take the message back. Nothing is taken back yet.
-abbrev pub got_recall : Graph → ℕ → Key → List Record → Bool
-got_recall graph host key own = false
+use Rattle.pipe_model.specs.Recalls.{got_recall}
 
 -- the host held the message, was told to take it back, or has noted its sender as failed by then
 abbrev pub IsKnown : Graph → ℕ → List Record → Key → Type 0

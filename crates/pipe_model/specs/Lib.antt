@@ -24,6 +24,8 @@ pub mod Outcome
 pub mod OwnOutcome
 pub mod Packets
 pub mod PreparedHeld
+pub mod Recalled
+pub mod Recalls
 pub mod Run
 pub mod Sender
 pub mod View

@@ -5,7 +5,7 @@ use Rattle.pipe_base.specs.declared.name.LinkId.{LinkId}
 use Rattle.pipe_base.specs.declared.name.Ts.{Ts}
 use Rattle.pipe_base.specs.declared.control.Announced.{Announced}
 use Rattle.pipe_base.specs.declared.control.Control.{Control}
-use Rattle.pipe_base.specs.declared.control.Control.TheVariants.{Freeze, Notice}
+use Rattle.pipe_base.specs.declared.control.Control.TheVariants.{DropLinks, Freeze, Notice}
 use Rattle.pipe_base.specs.Failed.{past_known}
 use Rattle.pipe_base.specs.Graph.{Graph, ins_of, is_host}
 use Rattle.pipe_base.specs.Moment.{Moment, has_link, is_up}
@@ -15,7 +15,7 @@ use Rattle.pipe_model.specs.declared.event.Event.TheVariants.{ControlTake, Tick}
 use Rattle.pipe_model.specs.declared.record.Record.{Record}
 use Rattle.pipe_model.specs.declared.record.Took.{Took}
 use Rattle.pipe_model.specs.declared.record.Took.TheVariants.{Message}
-use Rattle.pipe_model.specs.Moments.{moments_of, noted_hosts, quiet_calls}
+use Rattle.pipe_model.specs.Moments.{known_drops, moments_of, noted_hosts, quiet_calls}
 
 -- what a control message takes down: a freeze its link, where that is an in-link that is up; no other message any
 abbrev pub told_marks : List LinkId → List Moment → Control → List (LinkId × Ts)
@@ -32,9 +32,19 @@ downed_by graph node own _ _ = []
 abbrev pub downed : Graph → ℕ → List Record → Record → List (LinkId × Ts)
 downed graph node own r = downed_by graph node own r.event r.took
 
--- the links that the node comes to know as dropped: none are built yet
+-- what a control message tells of dropped links: those past the number that are known, no other message any
+abbrev pub told_drops : List LinkId → Control → List LinkId
+told_drops known (DropLinks links) = past_known known links
+told_drops known _ = []
+
+-- by the event
+abbrev pub drops_by : List LinkId → Event → Took → List LinkId
+drops_by known (ControlTake place keep) (Message a) = told_drops known a.control
+drops_by known _ _ = []
+
+-- The links that the node comes to know as dropped.
 abbrev pub newly_dropped : Graph → ℕ → List Record → Record → List LinkId
-newly_dropped graph node own r = []
+newly_dropped graph node own r = drops_by (known_drops own) r.event r.took
 
 -- what a control message tells of failed hosts: a notice those past the number that are noted, no other message any
 abbrev pub told_hosts : List Announced → Control → List Announced

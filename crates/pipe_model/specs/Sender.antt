@@ -1,16 +1,18 @@
 -- The sender of reliable scatterings along a host's own records.
 use Rattle.std.specs.Prelude.{ℕ, if◌then◌else◌, Bool, true, false, List, [], ◌∷◌, Option, None, Some}
+use Rattle.pipe_base.specs.declared.control.Announced.{Announced}
 use Rattle.pipe_base.specs.declared.message.Service.TheVariants.{Reliable}
 use Rattle.pipe_base.specs.declared.name.Ts.{Ts}
 use Rattle.pipe_base.specs.declared.packet.Packet.{Packet}
 use Rattle.pipe_base.specs.declared.packet.PacketKind.{PacketKind}
-use Rattle.pipe_base.specs.declared.packet.PacketKind.TheVariants.{Ack}
+use Rattle.pipe_base.specs.declared.packet.PacketKind.TheVariants.{Ack, RecallAck}
 use Rattle.pipe_base.specs.Graph.{Graph}
-use Rattle.pipe_base.specs.Scattering.{SenderCall, Began, Acked}
+use Rattle.pipe_base.specs.Scattering.{SenderCall, Began, Acked, Noted, RecallAcked}
 use Rattle.pipe_model.specs.declared.event.Event.{Event}
 use Rattle.pipe_model.specs.declared.event.Event.TheVariants.{Send}
 use Rattle.pipe_model.specs.declared.record.Record.{Record}
 use Rattle.pipe_model.specs.Got.{gets}
+use Rattle.pipe_model.specs.Moments.{noted_hosts}
 
 -- a reliable send that was stamped begins a scattering with this stamp and its receivers
 abbrev pub with_begun : Event → Option Ts → List SenderCall → List SenderCall
@@ -21,12 +23,23 @@ abbrev pub is_ack : PacketKind → Bool
 is_ack Ack = true
 is_ack _ = false
 
--- an acknowledgement that the host gets is its sender's, for the scattering with its timestamp
+abbrev pub is_recall_ack : PacketKind → Bool
+is_recall_ack RecallAck = true
+is_recall_ack _ = false
+
+-- an answer that the host gets is its sender's, for the scattering with its timestamp
 abbrev pub with_answer : Option Packet → List SenderCall → List SenderCall
 with_answer None past = past
-with_answer (Some p) past = if is_ack p.kind then Acked p.ts.0 p.src.0 ∷ past else past
+with_answer (Some p) past =
+    if is_ack p.kind then Acked p.ts.0 p.src.0 ∷ past else if is_recall_ack p.kind then RecallAcked p.ts.0 p.src.0 ∷ past else past
+
+-- where a record notes failed hosts, the sender is told all that are noted then
+abbrev pub with_noted : List Announced → List Announced → List SenderCall → List SenderCall
+with_noted noted [] past = past
+with_noted noted (_ ∷ _) past = Noted noted ∷ past
 
 -- What happened at the host's sender, from its own records.
 abbrev pub sender_calls : Graph → ℕ → List Record → List SenderCall
 sender_calls graph node [] = []
-sender_calls graph node (r ∷ own) = with_answer (gets graph node own r) (with_begun r.event r.step.stamped (sender_calls graph node own))
+sender_calls graph node (r ∷ own) =
+    with_noted (noted_hosts (r ∷ own)) r.step.noted (with_answer (gets graph node own r) (with_begun r.event r.step.stamped (sender_calls graph node own)))

@@ -1,6 +1,6 @@
 -- Whom a decision announces: hosts that are due, each of which is cut off from all that are kept, with its failure time; and if
 -- anybody, then all that are due.
-use Rattle.std.proofs.Common.{◌≡◌, ◌⊎◌, inl, inr, ℕ, zero, suc, ◌<◌, ◌==◌, if◌then◌else◌, cond, Bool, true, false, List, [], ◌∷◌, length, map, filter, get_or, Option, None, Some, refl, sym, ap, ◌∙◌, subst, eqb-true, eq-eqb, true≢false, arith}
+use Rattle.std.proofs.Common.{◌≡◌, ◌⊎◌, inl, inr, ℕ, zero, suc, ◌<◌, ◌==◌, ◌&&◌, ◌||◌, not, if◌then◌else◌, cond, Bool, true, false, List, [], ◌∷◌, length, map, filter, get_or, Option, None, Some, refl, sym, ap, ◌∙◌, subst, eqb-true, eq-eqb, true≢false, arith}
 use Rattle.std.specs.Prelude.{flat_map, is_some}
 use Rattle.std.specs.List.{All, list_all, list_any, range_with_len}
 use Rattle.std.proofs.lemmas.Bool.{and_parts, or_cases, or_left, or_right}
@@ -15,7 +15,7 @@ use Rattle.pipe_base.specs.Cut.{is_cut}
 use Rattle.pipe_base.specs.FailureTime.{failure_time}
 use Rattle.pipe_base.specs.Failed.{is_announced, time_of}
 use Rattle.pipe_base.specs.Graph.{Graph}
-use Rattle.pipe_model.specs.Decision.{all_hosts, can_go, due_hosts, host_id, newly_announced, time_at, with_time}
+use Rattle.pipe_model.specs.Decision.{all_hosts, all_over, can_go, due_hosts, host_id, is_over, newly_announced, time_at, with_time}
 use Rattle.pipe_model.specs.View.{View, intact, is_due, is_kept}
 
 -- a host that can be announced, with its time
@@ -126,3 +126,30 @@ all_due_going graph v host other time some other_in due = by (list_all (λ h. ca
         each_told graph v other (due_hosts graph v) (AllPass-from_list_all (λ (h : HostId). can_go graph v h.0) (due_hosts graph v) can)
         (left_in (is_due v) other (all_hosts graph) (among_all graph other other_in) due)
     by false cannot told = cc
+
+-- ---- when dropping may follow
+
+-- what a test says of all hosts it says of each
+each_host : (p : ℕ → Bool) (count host : ℕ) → list_all (λ h. p h.0) (map host_id (range_with_len 0 count)) ≡ true → host < count → p host ≡ true
+each_host p count host all lt =
+    let at : get_or (map host_id (range_with_len 0 count)) host (host_id 0) ≡ host_id host = get_or-map-range_with_len host_id 0 count host host (host_id 0) lt (omega arith) in
+    let size = length-map-range_with_len host_id 0 count in
+    sym (ap (λ (h : HostId). p h.0) at) ∙ AllPass-from_list_all (λ (h : HostId). p h.0) (map host_id (range_with_len 0 count)) all host (host_id 0) (omega arith)
+
+-- no host is a reason to wait: none is due, and each that is kept said that it has noted all
+pub record IsOver (v : View) (host : ℕ) : Type 0 where
+  pub trusted : is_announced host v.announced ≡ false → v.doomed host ≡ false
+  pub noted : is_kept v host ≡ true → v.done host ≡ length v.announced
+
+over_by : (doomed told kept : Bool) (done count : ℕ) → (not (doomed && not told) && (not kept || (done == count))) ≡ true
+    → (told ≡ false → doomed ≡ false) × (kept ≡ true → done ≡ count)
+over_by true true true done count is = (λ h. absurd (true≢false h), λ h. eqb-true done count is)
+over_by true true false done count is = (λ h. absurd (true≢false h), λ h. absurd (true≢false (sym h)))
+over_by true false kept done count is = absurd (true≢false (sym is))
+over_by false told true done count is = (λ h. refl, λ h. eqb-true done count is)
+over_by false told false done count is = (λ h. refl, λ h. absurd (true≢false (sym h)))
+
+pub over_at : (graph : Graph) (v : View) (host : ℕ) → all_over graph v ≡ true → host < graph.hosts → IsOver v host
+over_at graph v host over lt =
+    let parts = over_by (v.doomed host) (is_announced host v.announced) (is_kept v host) (v.done host) (length v.announced) (each_host (is_over v) graph.hosts host over lt) in
+    record { trusted = parts.0; noted = parts.1 }

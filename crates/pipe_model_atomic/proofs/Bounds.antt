@@ -1,5 +1,5 @@
 -- What a host promises bounds the commit barriers of all that it reaches, and so does each report on the way.
-use Rattle.std.proofs.Common.{◌≡◌, ◌⊎◌, ℕ, ◌<◌, ◌≤◌, ◌&&◌, not, nat_le, nat_lt, Bool, true, false, List, [], ◌∷◌, ◌++◌, length, Option, None, Some, refl, inl, inr, sym, subst, ap, ◌∙◌, arith, le_trans, true≢false}
+use Rattle.std.proofs.Common.{◌≡◌, ◌⊎◌, ℕ, ◌<◌, ◌≤◌, ◌&&◌, not, nat_le, Bool, true, false, List, [], ◌∷◌, ◌++◌, length, Option, None, Some, refl, inl, inr, sym, subst, ap, ◌∙◌, arith, le_trans, true≢false}
 use Rattle.std.proofs.lemmas.Bool.{cases_lt}
 use Rattle.std.proofs.lemmas.Bool.Decides.{nat_tests}
 use Rattle.std.proofs.lemmas.List.Elements.{All-weaker}
@@ -34,7 +34,7 @@ use Rattle.pipe_model_atomic.specs.Sentences.{Bounding}
 use Rattle.pipe_model_atomic.specs.UnsettledAbove.{AreUnsettledAbove}
 use Rattle.pipe_model_atomic.proofs.Reaching.{IsWay, way_of, way_reaches}
 use Rattle.pipe_model_atomic.proofs.Times.{is_timed}
-use Rattle.pipe_model_atomic.proofs.Views.{live_stay}
+use Rattle.pipe_model_atomic.proofs.Views.{live_in}
 
 -- a node's commit barrier, and what it promises
 abbrev pub commit_of : Graph → List Record → ℕ → ℕ
@@ -76,9 +76,6 @@ unsettled_above graph past holds sender host sender_in present member =
 
 -- ---- reports
 
-link_below : (link count : ℕ) → nat_lt link count ≡ true → link < count
-link_below link count is = grind (arith, nat_tests, is)
-
 -- a report is what was received on its link, now and later
 pub report_received : (graph : Graph) (past : List Record) → IsHistory graph past → Bounding graph past → (link : ℕ) (value : Ts) → (view graph past).reports link ≡ Some value
     → register Commit (moments_of (own graph (head_of graph link) past)) link ≡ value.0
@@ -91,7 +88,7 @@ report_bounds_head : (graph : Graph) (past : List Record) → IsHistory graph pa
     → commit_of graph past (head_of graph link) ≤ value.0
 report_bounds_head graph past run holds link value is =
     let live : is_live graph past link ≡ true = (holds.reports_are_marks link value is).live in
-    let known : link < length graph.links = link_below link (length graph.links) (sym (live_stay graph past link) ∙ live) in
+    let known : link < length graph.links = live_in graph past link live in
     subst (λ (n : ℕ). commit_of graph past (head_of graph link) ≤ n) (report_received graph past run holds link value is)
     (live_received graph past holds link known live)
 
@@ -161,13 +158,20 @@ cut_bounds graph past run holds host other time one two cut =
       | inr bound ↦ bound
     ]
 
+time_bounds_by : (member : Bool) (graph : Graph) (past : List Record) → IsHistory graph past → Bounding graph past → (host other : ℕ) (time : Ts) → is_member graph past host ≡ member
+    → time_of host (announced graph past) ≡ Some time → IsPresent graph past other → is_announced host (noted_hosts (own graph other past)) ≡ false
+    → commit_of graph past other ≤ time.0
+time_bounds_by true graph past run holds host other time member is present unnoted =
+    elim (holds.noted_or_cut_off host other time is member present) [
+      | inl noted ↦ absurd (true≢false (sym noted ∙ unnoted))
+      | inr cut ↦ cut_bounds graph past run holds host other time member present.member cut
+    ]
+time_bounds_by false graph past run holds host other time gone is present unnoted =
+    absurd (true≢false (sym (holds.gone_are_noted host other (is_timed host time (announced graph past) is) gone present.member) ∙ unnoted))
+
 -- the commit barrier of a present host that has not noted a host that was announced is at most its time
 pub time_bounds : (graph : Graph) (past : List Record) → IsHistory graph past → Bounding graph past → (host other : ℕ) (time : Ts)
     → time_of host (announced graph past) ≡ Some time → IsPresent graph past other → is_announced host (noted_hosts (own graph other past)) ≡ false
     → commit_of graph past other ≤ time.0
 time_bounds graph past run holds host other time is present unnoted =
-    elim (holds.noted_or_cut_off host other time is present) [
-      | inl noted ↦ absurd (true≢false (sym noted ∙ unnoted))
-      | inr cut ↦ cut_bounds graph past run holds host other time
-          (holds.announced_are_members host (is_timed host time (announced graph past) is)) present.member cut
-    ]
+    time_bounds_by (is_member graph past host) graph past run holds host other time refl is present unnoted

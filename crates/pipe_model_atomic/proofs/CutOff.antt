@@ -1,34 +1,38 @@
--- A present host has noted a host that was announced, or is cut off from it: it was when the host was announced, and reports
--- stay.
-use Rattle.std.proofs.Common.{◌≡◌, ◌⊎◌, ℕ, ◌<◌, ◌≤◌, ◌==◌, ◌&&◌, ◌||◌, not, nat_le, if◌then◌else◌, Bool, true, false, List, ◌∷◌, ◌++◌, Option, None, Some, refl, inl, inr, sym, subst, ap, ◌∙◌, eqb-true, true≢false, arith}
+-- A present host has noted a host that was announced, or is cut off from it while that takes part: it was when the host was announced,
+-- reports stay until links are dropped, and then all that stay have noted all that were announced.
+use Rattle.std.proofs.Common.{◌≡◌, ◌⊎◌, ℕ, ◌<◌, ◌≤◌, ◌==◌, ◌&&◌, ◌||◌, not, nat_le, if◌then◌else◌, Bool, true, false, List, ◌∷◌, ◌++◌, length, Option, None, Some, refl, inl, inr, sym, subst, ap, ◌∙◌, eqb-true, true≢false, arith}
 use Rattle.std.specs.Prelude.{is_some}
-use Rattle.std.proofs.lemmas.Bool.{and_parts, or_left}
+use Rattle.std.proofs.lemmas.Bool.{and_parts, or_cases}
 use Rattle.std.proofs.lemmas.Bool.Decides.{nat_tests}
 use Rattle.std.proofs.lemmas.List.Folds.{list_any-append}
 use Rattle.pipe_base.specs.declared.control.Announced.{Announced}
+use Rattle.pipe_base.specs.declared.name.LinkId.{LinkId}
 use Rattle.pipe_base.specs.declared.name.Ts.{Ts}
 use Rattle.pipe_base.specs.Failed.{is_announced, time_of}
 use Rattle.pipe_base.specs.Graph.{Graph}
 use Rattle.pipe_base.specs.Reach.{reaches}
 use Rattle.pipe_failtime.proofs.CutLaws.{cut_reaches_none}
 use Rattle.pipe_failtime.proofs.TimeLaws.{time_in_words}
-use Rattle.pipe_paths.proofs.PathLaws.{HasAll}
-use Rattle.pipe_paths.proofs.Tests.{and_both, not_from}
+use Rattle.pipe_paths.proofs.Tests.{and_both, not_from, not_is}
 use Rattle.pipe_model.specs.declared.record.Record.{Record}
-use Rattle.pipe_model.specs.Acting.{is_own, own}
+use Rattle.pipe_model.specs.Acting.{own}
 use Rattle.pipe_model.specs.Controller.{announced, view}
-use Rattle.pipe_model.specs.Decision.{after_doom, newly_announced}
+use Rattle.pipe_model.specs.Decision.{after_doom, all_over, newly_announced}
 use Rattle.pipe_model.specs.Moments.{noted_hosts}
 use Rattle.pipe_model.specs.View.{View, intact, is_due, is_kept}
-use Rattle.pipe_model.proofs.Own.{own_more, own_same}
-use Rattle.pipe_model_atomic.specs.NotedOrCutOff.{AreNotedOrCutOff, IsCutOff, is_open, is_within}
+use Rattle.pipe_model_atomic.specs.GoneAreNoted.{AreGoneNoted}
+use Rattle.pipe_model_atomic.specs.NotedOrCutOff.{AreNotedOrCutOff, is_open, is_within}
 use Rattle.pipe_model_atomic.specs.Present.{IsPresent}
-use Rattle.pipe_model_atomic.proofs.Announcing.{IsGoing, all_due_going, newly_going}
+use Rattle.pipe_model_atomic.specs.PresentAreMembers.{ArePresentMembers}
+use Rattle.pipe_model_atomic.specs.Sentences.{Knowing}
+use Rattle.pipe_model_atomic.proofs.Announcing.{IsGoing, all_due_going, newly_going, over_at}
+use Rattle.pipe_model_atomic.proofs.Members.{trusted_told}
 use Rattle.pipe_model_atomic.proofs.Reaching.{AreFedIn, reaches_fed, reaches_fewer}
-use Rattle.pipe_model_atomic.proofs.Times.{has_time, is_timed, one_time, time_after, time_begins, time_gives}
-use Rattle.pipe_model_atomic.proofs.Views.{announced_more, member_in, members_stay, trusted_before, view_after}
+use Rattle.pipe_model_atomic.proofs.Times.{announced_still, begins_more, begins_whole, has_time, is_timed, one_time, time_after, time_begins, time_gives}
+use Rattle.pipe_model_atomic.proofs.Told.{noted_more}
+use Rattle.pipe_model_atomic.proofs.Views.{decision_after, member_before, member_in, reported, told_view, trusted_before, untold, view_after}
 
--- ---- reports stay, so open links grow fewer
+-- ---- reports stay until links are dropped, so open links grow fewer
 
 intact_by : (o : Option Ts) (live : Bool) (time : Ts) → (live && not (is_some o)) ≡ true → (live && not (is_within time o)) ≡ true
 intact_by None live time is = is
@@ -40,34 +44,13 @@ open_by true v link told value time same whole is =
     subst (λ (n : ℕ). is_open v time n ≡ true) (sym (eqb-true link told same)) (intact_by (v.reports told) (v.live told) time whole)
 open_by false v link told value time other whole is = is
 
-open_before : (graph : Graph) (past : List Record) (r : Record) (time : Ts) → HasAll graph (is_open (view graph (r ∷ past)) time) (is_open (view graph past) time)
-open_before graph past r time link known =
-    let v : View = view graph past in
-    view_after (λ (w : View). is_open w time link ≡ true → is_open v time link ≡ true) graph r.event r.took v
-    (λ m told value took down whole. open_by (link == told.0) v link told.0 value time refl whole)
-    (λ decides is. is) (λ is. is)
-
--- ---- hosts that were announced before
-
-noted_later : (b : Bool) (graph : Graph) (past : List Record) (r : Record) (host other : ℕ) → is_own graph other r ≡ b
-    → is_announced host (noted_hosts (own graph other past)) ≡ true → is_announced host (noted_hosts (own graph other (r ∷ past))) ≡ true
-noted_later true graph past r host other mine noted =
-    let known : List Announced = noted_hosts (own graph other past) in
-    subst (λ (o : List Record). is_announced host (noted_hosts o) ≡ true) (sym (own_more graph other r past mine))
-    (list_any-append (λ (a : Announced). a.host.0 == host) known r.step.noted
-    ∙ or_left (is_announced host known) (is_announced host r.step.noted) noted)
-noted_later false graph past r host other elsewhere noted =
-    subst (λ (o : List Record). is_announced host (noted_hosts o) ≡ true) (sym (own_same graph other r past elsewhere)) noted
+still_cut : (graph : Graph) (v : View) (link : LinkId) (value time : Ts) (host other : ℕ) → intact v link.0 ≡ true → reaches graph (is_open v time) host other ≡ false
+    → reaches graph (is_open (reported link value v) time) host other ≡ false
+still_cut graph v link value time host other whole cut =
+    reaches_fewer graph (is_open (reported link value v) time) (is_open v time) host other (λ l known is. open_by (l == link.0) v l link.0 value time refl whole is) cut
 
 pub present_before : (graph : Graph) (past : List Record) (r : Record) (host : ℕ) → IsPresent graph (r ∷ past) host → IsPresent graph past host
-present_before graph past r host present = record {
-  member = members_stay graph past host ∙ sym (members_stay graph (r ∷ past) host) ∙ present.member;
-  trusted = trusted_before graph past r host present.trusted;
-}
-
-still_cut : (graph : Graph) (past : List Record) (r : Record) (host other : ℕ) (time : Ts) → IsCutOff graph past host time other → IsCutOff graph (r ∷ past) host time other
-still_cut graph past r host other time cut =
-    reaches_fewer graph (is_open (view graph (r ∷ past)) time) (is_open (view graph past) time) host other (open_before graph past r time) cut
+present_before graph past r host present = record { member = member_before graph past r host present.member; trusted = trusted_before graph past r host present.trusted }
 
 -- ---- hosts that a decision announces
 
@@ -117,32 +100,115 @@ newly_cut graph v host other time wasnt other_in member is trusted =
     let going : IsGoing graph v host time = time_gives (IsGoing graph v) host time (newly_announced graph v) (newly_going graph v) new in
     going_cut graph v host other time going other_in (kept_by (v.doomed other) graph v host other time refl new other_in member neither.0 neither.1)
 
--- ---- both
+-- ---- where links are dropped, all that stay have noted all that were announced
 
-noted_or_cut_by : (before : Bool) (graph : Graph) (past : List Record) (r : Record) (host other : ℕ) (time : Ts) → AreNotedOrCutOff graph past
-    → is_announced host (announced graph past) ≡ before → time_of host (announced graph (r ∷ past)) ≡ Some time → IsPresent graph (r ∷ past) other
-    → (is_announced host (noted_hosts (own graph other (r ∷ past))) ≡ true) ⊎ IsCutOff graph (r ∷ past) host time other
-noted_or_cut_by true graph past r host other time holds was is present =
-    let at = has_time host (announced graph past) was in
-    let still : time_of host (announced graph (r ∷ past)) ≡ Some at.0 = time_begins host at.0 (announced graph past) (announced graph (r ∷ past)) (announced_more graph past r) at.1 in
-    let same : at.0 ≡ time = one_time at.0 time (sym still ∙ is) in
-    let old : time_of host (announced graph past) ≡ Some time = at.1 ∙ ap (λ (t : Ts). Some t) same in
-    elim (holds host other time old (present_before graph past r other present)) [
-      | inl noted ↦ inl (noted_later (is_own graph other r) graph past r host other refl noted)
-      | inr cut ↦ inr (still_cut graph past r host other time cut)
-    ]
-noted_or_cut_by false graph past r host other time holds wasnt is present =
+all_noted : (graph : Graph) (past : List Record) → Knowing graph past → (other : ℕ) → other < graph.hosts → all_over graph (told_view graph (view graph past)) ≡ true
+    → is_kept (told_view graph (view graph past)) other ≡ true → (told_view graph (view graph past)).announced ≡ noted_hosts (own graph other past)
+all_noted graph past knows other other_in over kept =
     let v : View = view graph past in
-    let other_in : other < graph.hosts = member_in graph (r ∷ past) other present.member in
-    let member : v.members other ≡ true = (present_before graph past r other present).member in
-    let never : time_of host v.announced ≡ Some time → ⊥ = λ old. true≢false (sym (is_timed host time v.announced old) ∙ wasnt) in
-    inr (view_after
-    (λ (w : View). time_of host w.announced ≡ Some time → is_announced other w.announced ≡ false → reaches graph (is_open w time) host other ≡ false)
-    graph r.event r.took v
-    (λ m link value took down whole old trusted. absurd (never old))
-    (λ decides. newly_cut graph (after_doom graph v) host other time wasnt other_in member)
-    (λ old trusted. absurd (never old)) is present.trusted)
+    let w : View = told_view graph v in
+    let noted : List Announced = noted_hosts (own graph other past) in
+    let count : v.done other ≡ length w.announced = (over_at graph w other over other_in).noted kept in
+    let told : v.done other ≤ length noted = knows.counts_true.done other in
+    begins_whole noted w.announced (begins_more noted v.announced w.announced (knows.noted_first other) (newly_announced graph (after_doom graph v), refl))
+    (omega (arith, count, told))
 
-pub keeps_noted_or_cut_off : (graph : Graph) (past : List Record) (r : Record) → AreNotedOrCutOff graph past → AreNotedOrCutOff graph (r ∷ past)
-keeps_noted_or_cut_off graph past r holds host other time is present =
-    noted_or_cut_by (is_announced host (announced graph past)) graph past r host other time holds refl is present
+noted_all : (graph : Graph) (past : List Record) → Knowing graph past → (host other : ℕ) → other < graph.hosts → all_over graph (told_view graph (view graph past)) ≡ true
+    → is_kept (told_view graph (view graph past)) other ≡ true → is_announced host (told_view graph (view graph past)).announced ≡ true
+    → is_announced host (noted_hosts (own graph other past)) ≡ true
+noted_all graph past knows host other other_in over kept is =
+    sym (ap (is_announced host) (all_noted graph past knows other other_in over kept)) ∙ is
+
+-- ---- hosts that take part
+
+-- by a view, a host has noted the other one by a history, or is cut off from it
+abbrev IsKnownFor : Graph → List Record → ℕ → ℕ → Ts → View → Type 0
+IsKnownFor graph past host other time v = (is_announced host (noted_hosts (own graph other past)) ≡ true) ⊎ (reaches graph (is_open v time) host other ≡ false)
+
+-- this is so where the one was announced and takes part, and the other one is present
+abbrev IsKnownIn : Graph → List Record → ℕ → ℕ → Ts → View → Type 0
+IsKnownIn graph past host other time v =
+    time_of host v.announced ≡ Some time → v.members host ≡ true → v.members other ≡ true → is_announced other v.announced ≡ false → IsKnownFor graph past host other time v
+
+known_told : (before : Bool) (graph : Graph) (past : List Record) (host other : ℕ) (time : Ts) → is_announced host (announced graph past) ≡ before → other < graph.hosts
+    → IsKnownIn graph past host other time (view graph past) → IsKnownIn graph past host other time (told_view graph (view graph past))
+known_told true graph past host other time was other_in known is member other_member trusted =
+    let v : View = view graph past in
+    let w : View = told_view graph v in
+    let at = has_time host v.announced was in
+    let still : time_of host w.announced ≡ Some at.0 = time_begins host at.0 v.announced w.announced (newly_announced graph (after_doom graph v), refl) at.1 in
+    let same : at.0 ≡ time = one_time at.0 time (sym still ∙ is) in
+    known (at.1 ∙ ap (λ (t : Ts). Some t) same) member other_member (trusted_told graph v other trusted)
+known_told false graph past host other time wasnt other_in known is member other_member trusted =
+    inr (newly_cut graph (after_doom graph (view graph past)) host other time wasnt other_in other_member is trusted)
+
+known_reported : (graph : Graph) (past : List Record) (host other : ℕ) (time : Ts) (v : View) (link : LinkId) (value : Ts) → intact v link.0 ≡ true
+    → IsKnownIn graph past host other time v → IsKnownIn graph past host other time (reported link value v)
+known_reported graph past host other time v link value whole known is member other_member trusted =
+    elim (known is member other_member trusted) [
+      | inl noted ↦ inl noted
+      | inr cut ↦ inr (still_cut graph v link value time host other whole cut)
+    ]
+
+known_after : (graph : Graph) (past : List Record) (r : Record) (host other : ℕ) (time : Ts) → Knowing graph past → AreNotedOrCutOff graph past → other < graph.hosts
+    → IsKnownIn graph past host other time (view graph (r ∷ past))
+known_after graph past r host other time knows holds other_in =
+    let v : View = view graph past in
+    let P : View → Type 0 = IsKnownIn graph past host other time in
+    let old : P v = λ is member other_member trusted. holds host other time is member (record { member = other_member; trusted = trusted }) in
+    view_after P graph r.event r.took v
+    (λ m took. record {
+      down = λ link value told whole. known_reported graph past host other time v link value whole old;
+      done = λ node count told. old;
+      gone = λ node count told. old;
+    })
+    (λ decides. decision_after P graph v (known_told (is_announced host v.announced) graph past host other time refl other_in old)
+    (λ over is member other_member trusted.
+    inl (noted_all graph past knows host other other_in over other_member (is_timed host time (told_view graph v).announced is))))
+    old
+
+pub keeps_noted_or_cut_off : (graph : Graph) (past : List Record) (r : Record) → Knowing graph past → AreNotedOrCutOff graph past → AreNotedOrCutOff graph (r ∷ past)
+keeps_noted_or_cut_off graph past r knows holds host other time is member present =
+    elim (known_after graph past r host other time knows holds (member_in graph (r ∷ past) other present.member) is member present.member present.trusted) [
+      | inl noted ↦ inl (announced_still host (noted_hosts (own graph other past)) (noted_hosts (own graph other (r ∷ past))) (noted_more graph past r other) noted)
+      | inr cut ↦ inr cut
+    ]
+
+-- ---- hosts that have left
+
+-- a host that is announced now takes part: it was due, so not announced before
+told_member : (graph : Graph) (past : List Record) → ArePresentMembers graph past → (host : ℕ) → is_announced host (newly_announced graph (after_doom graph (view graph past))) ≡ true
+    → (view graph past).members host ≡ true
+told_member graph past present host is =
+    let v : View = view graph past in
+    let w : View = after_doom graph v in
+    let at = has_time host (newly_announced graph w) is in
+    let going : IsGoing graph w host at.0 = time_gives (IsGoing graph w) host at.0 (newly_announced graph w) (newly_going graph w) at.1 in
+    present host going.host_in (not_is (is_announced host v.announced) (and_parts (w.doomed host) (not (is_announced host v.announced)) going.due).1)
+
+-- by a view, a host that was announced and takes part no more is noted by another one that does, by a history
+abbrev IsNotedIn : Graph → List Record → ℕ → ℕ → View → Type 0
+IsNotedIn graph past host other v =
+    is_announced host v.announced ≡ true → v.members host ≡ false → v.members other ≡ true → is_announced host (noted_hosts (own graph other past)) ≡ true
+
+noted_told : (graph : Graph) (past : List Record) (host other : ℕ) → ArePresentMembers graph past → IsNotedIn graph past host other (view graph past)
+    → IsNotedIn graph past host other (told_view graph (view graph past))
+noted_told graph past host other present known is gone member =
+    let v : View = view graph past in
+    let new : List Announced = newly_announced graph (after_doom graph v) in
+    elim (or_cases (is_announced host v.announced) (is_announced host new) (sym (list_any-append (λ (a : Announced). a.host.0 == host) v.announced new) ∙ is)) [
+      | inl before ↦ known before gone member
+      | inr now ↦ absurd (true≢false (sym (told_member graph past present host now) ∙ gone))
+    ]
+
+pub keeps_gone_noted : (graph : Graph) (past : List Record) (r : Record) → Knowing graph past → ArePresentMembers graph past → AreGoneNoted graph past → AreGoneNoted graph (r ∷ past)
+keeps_gone_noted graph past r knows present holds host other is gone member =
+    let v : View = view graph past in
+    let P : View → Type 0 = IsNotedIn graph past host other in
+    let old : P v = holds host other in
+    let other_in : other < graph.hosts = member_in graph (r ∷ past) other member in
+    announced_still host (noted_hosts (own graph other past)) (noted_hosts (own graph other (r ∷ past))) (noted_more graph past r other)
+    (view_after P graph r.event r.took v (untold P v r.took (λ link value. old) (λ node count. old) (λ node count. old))
+    (λ decides. decision_after P graph v (noted_told graph past host other present old)
+    (λ over told left stays. noted_all graph past knows host other other_in over stays told))
+    old is gone member)

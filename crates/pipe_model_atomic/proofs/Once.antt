@@ -17,7 +17,7 @@ use Rattle.pipe_model.specs.Decision.{after_doom, can_go, due_hosts, host_id, ne
 use Rattle.pipe_model.specs.View.{View, is_due}
 use Rattle.pipe_model_atomic.specs.AnnouncedOnce.{AreAnnouncedOnce}
 use Rattle.pipe_model_atomic.proofs.Announcing.{IsGoing, newly_going}
-use Rattle.pipe_model_atomic.proofs.Views.{view_after}
+use Rattle.pipe_model_atomic.proofs.Views.{decision_after, told_view, untold, view_after}
 
 -- the hosts rise from a number on
 abbrev Rises : ℕ → List Announced → Type 0
@@ -112,5 +112,8 @@ once_more graph v before =
 
 pub keeps_announced_once : (graph : Graph) (past : List Record) (r : Record) → AreAnnouncedOnce graph past → AreAnnouncedOnce graph (r ∷ past)
 keeps_announced_once graph past r before =
-    view_after (λ (v : View). AllPairs Differ v.announced) graph r.event r.took (view graph past)
-    (λ m link value took down whole. before) (λ decides. once_more graph (after_doom graph (view graph past)) before) before
+    let v : View = view graph past in
+    let P : View → Type 0 = λ w. AllPairs Differ w.announced in
+    let more : P (told_view graph v) = once_more graph (after_doom graph v) before in
+    view_after P graph r.event r.took v (untold P v r.took (λ link value. before) (λ host count. before) (λ node count. before))
+    (λ decides. decision_after P graph v more (λ over. more)) before

@@ -21,7 +21,7 @@ use Rattle.pipe_model_atomic.specs.TimesPromised.{AreTimesPromised}
 use Rattle.pipe_model_atomic.proofs.Announcing.{IsGoing, newly_going}
 use Rattle.pipe_model_atomic.proofs.Bounds.{half_passes_on, host_promises, promise_bounds, promised_of, report_received}
 use Rattle.pipe_model_atomic.proofs.Times.{has_time, is_timed, one_time, time_after, time_begins, time_gives}
-use Rattle.pipe_model_atomic.proofs.Views.{announced_more, view_after}
+use Rattle.pipe_model_atomic.proofs.Views.{announced_more, decision_after, told_view, untold, view_after}
 
 -- what the tail of a fed link promises is at most what the host promises
 fed_promised : (graph : Graph) (past : List Record) → Bounding graph past → (host link : ℕ) → feeds graph (is_live graph past) host link ≡ true
@@ -67,13 +67,13 @@ time_promised false graph past r host time run holds promised wasnt is =
     let v : View = view graph past in
     let low : ℕ → Type 0 = λ n. n ≤ promise graph host (own graph host past) in
     let never : time_of host v.announced ≡ Some time → low time.0 = λ old. absurd (true≢false (sym (is_timed host time v.announced old) ∙ wasnt)) in
-    view_after (λ (w : View). time_of host w.announced ≡ Some time → low time.0) graph r.event r.took v
-    (λ m link value took down whole. never)
-    (λ decides new.
+    let P : View → Type 0 = λ w. time_of host w.announced ≡ Some time → low time.0 in
+    let new : P (told_view graph v) = λ told.
     new_promised graph past run holds host time
     (time_gives (IsGoing graph (after_doom graph v)) host time (newly_announced graph (after_doom graph v)) (newly_going graph (after_doom graph v))
-    (sym (time_after host v.announced (newly_announced graph (after_doom graph v)) wasnt) ∙ new)))
-    never is
+    (sym (time_after host v.announced (newly_announced graph (after_doom graph v)) wasnt) ∙ told)) in
+    view_after P graph r.event r.took v (untold P v r.took (λ link value. never) (λ other count. never) (λ node count. never))
+    (λ decides. decision_after P graph v new (λ over. new)) never is
 
 pub keeps_times_promised : (graph : Graph) (past : List Record) (r : Record) → IsHistory graph (r ∷ past) → Bounding graph past → AreTimesPromised graph past
     → AreTimesPromised graph (r ∷ past)

@@ -3,6 +3,7 @@ use Rattle.std.proofs.Common.{◌≡◌, ℕ, ◌<◌, not, if◌then◌else◌,
 use Rattle.std.specs.List.{Contains}
 use Rattle.std.proofs.lemmas.Bool.{and_from}
 use Rattle.std.proofs.lemmas.List.Elements.{All-contains_itself, All-head, All-tail, Contains-append_left, Contains-append_right}
+use Rattle.pipe_base.specs.declared.control.Announced.{Announced}
 use Rattle.pipe_base.specs.declared.message.Entry.{Entry}
 use Rattle.pipe_base.specs.declared.message.Service.{Service}
 use Rattle.pipe_base.specs.declared.message.Service.TheVariants.{Reliable}
@@ -11,19 +12,20 @@ use Rattle.pipe_base.specs.declared.name.Ts.{Ts}
 use Rattle.pipe_base.specs.declared.packet.Packet.{Packet}
 use Rattle.pipe_base.specs.declared.step.Outcome.TheVariants.{Ok}
 use Rattle.pipe_base.specs.Graph.{Graph}
-use Rattle.pipe_base.specs.Scattering.{Scattering, SenderCall, Acked, Began, begun}
+use Rattle.pipe_base.specs.Scattering.{Scattering, SenderCall, Acked, Began, RecallAcked, begun}
 use Rattle.pipe_model.specs.declared.event.Event.{Event}
 use Rattle.pipe_model.specs.declared.event.Event.TheVariants.{Send}
 use Rattle.pipe_model.specs.declared.record.Record.{Record}
 use Rattle.pipe_model.specs.Acting.{acts, is_idle, is_own, own}
 use Rattle.pipe_model.specs.Event.{IsOfGraph}
 use Rattle.pipe_model.specs.Got.{gets}
+use Rattle.pipe_model.specs.Moments.{noted_hosts}
 use Rattle.pipe_model.specs.NeverLate.{AreOfGraph}
 use Rattle.pipe_model.specs.Order.{IsSendTo, WasSent}
-use Rattle.pipe_model.specs.Sender.{is_ack, sender_calls, with_answer, with_begun}
+use Rattle.pipe_model.specs.Sender.{is_ack, is_recall_ack, sender_calls, with_answer, with_begun, with_noted}
 use Rattle.pipe_model.proofs.Own.{own_more, own_same}
-use Rattle.pipe_model.proofs.Promises.{calls_after}
-use Rattle.pipe_model_atomic.proofs.AllOrNone.{begun_by}
+use Rattle.pipe_model.proofs.Promises.{begun_after}
+use Rattle.pipe_model_atomic.proofs.Passing.{begun_by}
 
 -- the sender of the entry began a scattering with its timestamp, which lists the host with its body
 pub record IsBegunFor (graph : Graph) (past : List Record) (host : ℕ) (e : Entry) : Type 0 where
@@ -38,9 +40,8 @@ stays_by : (b : Bool) (graph : Graph) (past : List Record) (r : Record) (n : ℕ
     → Contains (begun_by graph (r ∷ past) n) s
 stays_by true graph past r n s mine has =
     subst (λ (o : List Record). Contains (begun (sender_calls graph n o)) s) (sym (own_more graph n r past mine))
-    (calls_after (λ (c : List SenderCall). Contains (begun c) s) graph n (own graph n past) r
-    (λ host now ts dests event stamp. Contains-append_left (begun_by graph past n) (record { ts = ts; dests = dests } ∷ []) s has)
-    (λ c ts host before. before) has)
+    (begun_after (λ (ss : List Scattering). Contains ss s) graph n (own graph n past) r
+    (λ host now ts dests event stamp. Contains-append_left (begun_by graph past n) (record { ts = ts; dests = dests } ∷ []) s has) has)
 stays_by false graph past r n s other has =
     subst (λ (o : List Record). Contains (begun (sender_calls graph n o)) s) (sym (own_same graph n r past other)) has
 
@@ -54,13 +55,19 @@ begun_stays graph past r host e has = record {
 
 -- ---- what a send begins
 
-answer_begins : (b : Bool) (ts host : ℕ) (calls : List SenderCall) → begun (if b then Acked ts host ∷ calls else calls) ≡ begun calls
-answer_begins true ts host calls = refl
-answer_begins false ts host calls = refl
+answer_begins : (ack back : Bool) (ts host : ℕ) (calls : List SenderCall)
+    → begun (if ack then Acked ts host ∷ calls else if back then RecallAcked ts host ∷ calls else calls) ≡ begun calls
+answer_begins true back ts host calls = refl
+answer_begins false true ts host calls = refl
+answer_begins false false ts host calls = refl
 
 begun_answered : (o : Option Packet) (calls : List SenderCall) → begun (with_answer o calls) ≡ begun calls
 begun_answered None calls = refl
-begun_answered (Some p) calls = answer_begins (is_ack p.kind) p.ts.0 p.src.0 calls
+begun_answered (Some p) calls = answer_begins (is_ack p.kind) (is_recall_ack p.kind) p.ts.0 p.src.0 calls
+
+begun_noted : (noted new : List Announced) (calls : List SenderCall) → begun (with_noted noted new calls) ≡ begun calls
+begun_noted noted [] calls = refl
+begun_noted noted (a ∷ more) calls = refl
 
 sends_own : (graph : Graph) (r : Record) (src : HostId) (service : Service) (now : Ts) (dests : List (HostId × List ℕ)) → r.event ≡ Send src service now dests
     → is_idle r.step.outcome ≡ false → is_own graph src.0 r ≡ true
@@ -77,7 +84,8 @@ send_begins graph past r src now ts dests event stamp mine =
     let now_begun : with_begun r.event r.step.stamped calls ≡ Began s ∷ calls =
     ap (λ (e : Event). with_begun e r.step.stamped calls) event ∙ ap (λ (x : Option Ts). with_begun (Send src Reliable now dests) x calls) stamp in
     let all : begun (sender_calls graph src.0 (r ∷ o)) ≡ begun calls ++ s ∷ [] =
-    begun_answered (gets graph src.0 o r) (with_begun r.event r.step.stamped calls) ∙ ap begun now_begun in
+    begun_noted (noted_hosts (r ∷ o)) r.step.noted (with_answer (gets graph src.0 o r) (with_begun r.event r.step.stamped calls))
+    ∙ begun_answered (gets graph src.0 o r) (with_begun r.event r.step.stamped calls) ∙ ap begun now_begun in
     subst (λ (x : List Record). Contains (begun (sender_calls graph src.0 x)) s) (sym (own_more graph src.0 r past mine))
     (subst (λ (ss : List Scattering). Contains ss s) (sym all) (Contains-append_right (begun calls) (s ∷ []) s (All-head (Contains (s ∷ [])) s [] (All-contains_itself (s ∷ [])))))
 

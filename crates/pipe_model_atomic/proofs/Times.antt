@@ -1,7 +1,7 @@
 -- Lists of announced hosts, and the times in them.
-use Rattle.std.proofs.Common.{◌≡◌, ℕ, ◌<◌, ◌≤◌, ◌==◌, ◌||◌, if◌then◌else◌, Bool, true, false, List, [], ◌∷◌, ◌++◌, length, drop, Option, None, Some, refl, sym, ap, ◌∙◌, subst, append-nil, append_assoc, eqb-true, true≢false, arith}
+use Rattle.std.proofs.Common.{◌≡◌, ℕ, ◌+◌, ◌<◌, ◌≤◌, ◌==◌, ◌||◌, if◌then◌else◌, Bool, true, false, List, [], ◌∷◌, ◌++◌, length, drop, Option, None, Some, refl, sym, ap, ◌∙◌, subst, append-nil, append_assoc, length-append, eqb-true, true≢false, arith}
 use Rattle.std.specs.List.{All}
-use Rattle.std.proofs.lemmas.Bool.{and_parts}
+use Rattle.std.proofs.lemmas.Bool.{or_left}
 use Rattle.std.proofs.lemmas.Bool.Decides.{nat_tests}
 use Rattle.std.proofs.lemmas.List.Elements.{All-head, All-tail}
 use Rattle.std.proofs.lemmas.List.Folds.{list_any-append}
@@ -9,7 +9,6 @@ use Rattle.pipe_base.specs.declared.control.Announced.{Announced}
 use Rattle.pipe_base.specs.declared.message.Key.{Key}
 use Rattle.pipe_base.specs.declared.name.Ts.{Ts}
 use Rattle.pipe_base.specs.Failed.{is_announced, is_from, is_void, past_known, time_of}
-use Rattle.pipe_base.specs.Messages.{same_key}
 use Rattle.pipe_model.proofs.Void.{not_void_before, time_first}
 use Rattle.pipe_model_atomic.specs.Begins.{Begins}
 
@@ -62,12 +61,29 @@ time_gives P host time (a ∷ xs) all is =
 
 -- ---- lists that begin others
 
-pub begins_same : (xs : List Announced) → Begins xs xs
+pub begins_same : {A : Type 0} (xs : List A) → Begins xs xs
 begins_same xs = ([], append-nil xs)
 
-pub begins_more : (xs ys zs : List Announced) → Begins xs ys → Begins ys zs → Begins xs zs
-begins_more xs ys zs first second =
-    (first.0 ++ second.0, sym (append_assoc xs first.0 second.0) ∙ ap (λ (l : List Announced). l ++ second.0) first.1 ∙ second.1)
+pub begins_still : {A : Type 0} (known all : List A) → Begins known all → Begins (known ++ []) all
+begins_still {A = A} known all begins = subst (λ (l : List A). Begins l all) (sym (append-nil known)) begins
+
+pub begins_more : {A : Type 0} (xs ys zs : List A) → Begins xs ys → Begins ys zs → Begins xs zs
+begins_more {A = A} xs ys zs first second =
+    (first.0 ++ second.0, sym (append_assoc xs first.0 second.0) ∙ ap (λ (l : List A). l ++ second.0) first.1 ∙ second.1)
+
+pub begins_shorter : {A : Type 0} (xs ys : List A) → Begins xs ys → length xs ≤ length ys
+begins_shorter {A = A} xs ys begins =
+    let size : length xs + length begins.0 ≡ length ys = sym (length-append xs begins.0) ∙ ap (λ (l : List A). length l) begins.1 in omega (arith, size)
+
+nothing_more : {A : Type 0} (xs later : List A) → length later ≤ 0 → xs ++ later ≡ xs
+nothing_more xs [] short = append-nil xs
+nothing_more xs (y ∷ ys) short = absurd (omega (arith, short))
+
+-- a list that is as long as the other one is the other one
+pub begins_whole : {A : Type 0} (xs ys : List A) → Begins xs ys → length ys ≤ length xs → ys ≡ xs
+begins_whole {A = A} xs ys begins long =
+    let size : length xs + length begins.0 ≡ length ys = sym (length-append xs begins.0) ∙ ap (λ (l : List A). length l) begins.1 in
+    sym begins.1 ∙ nothing_more xs begins.0 (omega (arith, size, long))
 
 pub time_begins : (host : ℕ) (time : Ts) (xs ys : List Announced) → Begins xs ys → time_of host xs ≡ Some time → time_of host ys ≡ Some time
 time_begins host time xs ys begins is = subst (λ (l : List Announced). time_of host l ≡ Some time) begins.1 (time_first host xs begins.0 time is)
@@ -82,16 +98,22 @@ announced_before host xs ys begins isnt =
     (sym (list_any-append (λ (a : Announced). a.host.0 == host) xs begins.0)
     ∙ ap (is_announced host) begins.1 ∙ isnt)
 
+-- who is announced in a list is announced in one that it begins
+pub announced_still : (host : ℕ) (xs ys : List Announced) → Begins xs ys → is_announced host xs ≡ true → is_announced host ys ≡ true
+announced_still host xs ys begins is =
+    sym (ap (is_announced host) begins.1) ∙ list_any-append (λ (a : Announced). a.host.0 == host) xs begins.0
+    ∙ or_left (is_announced host xs) (is_announced host begins.0) is
+
 -- what one knows of a list, with what is past it in another one, is the longer one of the two
-longer : (xs ys more rest : List Announced) → xs ++ more ≡ ys ++ rest → Begins (xs ++ drop (length xs) ys) (xs ++ more)
+longer : {A : Type 0} (xs ys more rest : List A) → xs ++ more ≡ ys ++ rest → Begins (xs ++ drop (length xs) ys) (xs ++ more)
 longer [] ys more rest same = (rest, sym same)
-longer (x ∷ xs) [] more rest same = (more, ap (λ (l : List Announced). l ++ more) (append-nil (x ∷ xs)))
-longer (x ∷ xs) (y ∷ ys) more rest same =
+longer {A = A} (x ∷ xs) [] more rest same = (more, ap (λ (l : List A). l ++ more) (append-nil (x ∷ xs)))
+longer {A = A} (x ∷ xs) (y ∷ ys) more rest same =
     let tails : xs ++ more ≡ ys ++ rest = cc in
     let later = longer xs ys more rest tails in
-    (later.0, ap (λ (l : List Announced). x ∷ l) later.1)
+    (later.0, ap (λ (l : List A). x ∷ l) later.1)
 
-pub known_and_told : (known list all : List Announced) → Begins known all → Begins list all → Begins (known ++ past_known known list) all
+pub known_and_told : {A : Type 0} (known list all : List A) → Begins known all → Begins list all → Begins (known ++ past_known known list) all
 known_and_told known list all mine told =
     subst (Begins (known ++ past_known known list)) mine.1 (longer known list mine.0 told.0 (mine.1 ∙ sym told.1))
 
@@ -124,10 +146,3 @@ void_noted key xs ys begins noted void =
     let at = has_time key.src.0 xs noted in
     let same : time_of key.src.0 ys ≡ Some at.0 = time_begins key.src.0 at.0 xs ys begins at.1 in
     ap (λ (o : Option Ts). is_from o key.ts) (at.1 ∙ sym same) ∙ void
-
--- messages with the same key are void together
-pub same_void : (failed : List Announced) (a b : Key) → same_key a b ≡ true → is_void failed a ≡ is_void failed b
-same_void failed a b same =
-    let parts = and_parts (a.ts.0 == b.ts.0) (a.src.0 == b.src.0) same in
-    ap (λ (n : ℕ). is_from (time_of n failed) a.ts) (eqb-true a.src.0 b.src.0 parts.1)
-    ∙ ap (λ (n : ℕ). is_from (time_of b.src.0 failed) (record { 0 = n })) (eqb-true a.ts.0 b.ts.0 parts.0)

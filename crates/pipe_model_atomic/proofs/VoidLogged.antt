@@ -8,7 +8,7 @@ use Rattle.pipe_base.specs.declared.message.Entry.{Entry}
 use Rattle.pipe_base.specs.declared.message.Key.{Key}
 use Rattle.pipe_base.specs.declared.message.Service.TheVariants.{Reliable}
 use Rattle.pipe_base.specs.declared.packet.Plane.TheVariants.{Commit}
-use Rattle.pipe_base.specs.Failed.{is_announced, is_void}
+use Rattle.pipe_base.specs.Failed.{is_announced, is_void, without_void}
 use Rattle.pipe_base.specs.Graph.{Graph}
 use Rattle.pipe_base.specs.Messages.{Messages, entry_of, from_barrier}
 use Rattle.pipe_paths.proofs.Tests.{not_is}
@@ -43,12 +43,13 @@ passed_free graph node own r =
     let failed : List Announced = noted_hosts (r ∷ own) in
     let ms : Messages = held Reliable graph node (r ∷ own) in
     let stands : Messages = standing Reliable graph node (r ∷ own) in
+    let P : Key × List ℕ → Type 0 = λ m. is_void failed m.0 ≡ false in
     All-map (IsFree failed) entry_of (passed_in Reliable graph node own r)
-    (All-filter _ (λ (m : Key × List ℕ). is_void failed m.0 ≡ false) (from_barrier (barrier_at Commit graph node own) stands)
-    (All-filter _ (λ (m : Key × List ℕ). is_void failed m.0 ≡ false) stands
-    (All-weaker (λ (m : Key × List ℕ). not (is_void failed m.0) ≡ true) (λ (m : Key × List ℕ). is_void failed m.0 ≡ false)
-    (λ (m : Key × List ℕ) is. not_is (is_void failed m.0) is) stands
-    (filter_passes (λ (m : Key × List ℕ). not (is_void failed m.0)) ms))))
+    (All-filter _ P (from_barrier (barrier_at Commit graph node own) stands)
+    (All-filter _ P stands
+    (All-filter _ P (without_void failed ms)
+    (All-weaker (λ (m : Key × List ℕ). not (is_void failed m.0) ≡ true) P (λ (m : Key × List ℕ) is. not_is (is_void failed m.0) is) (without_void failed ms)
+    (filter_passes (λ (m : Key × List ℕ). not (is_void failed m.0)) ms)))))
 
 logged_free : (graph : Graph) (node : ℕ) (own : List Record) (r : Record) → IsNodeStep graph node own r
     → All (IsFree (noted_hosts (r ∷ own))) (entries_of Reliable r.step.logged)

@@ -1,5 +1,5 @@
--- A present host has noted a host that was announced, or is cut off from it: no path by links that count leads to it without a
--- report of at most the time.
+-- A present host has noted a host that was announced and still takes part, or is cut off from it: no path by links that count leads
+-- to it without a report of at most the time.
 use Rattle.std.specs.Prelude.{◌≡◌, ◌⊎◌, ℕ, ◌&&◌, not, nat_le, Bool, true, false, List, Option, None, Some}
 use Rattle.std.specs.List.{list_any}
 use Rattle.pipe_base.specs.declared.name.Ts.{Ts}
@@ -9,7 +9,7 @@ use Rattle.pipe_base.specs.Path.{IsPath}
 use Rattle.pipe_base.specs.Reach.{reaches}
 use Rattle.pipe_model.specs.declared.record.Record.{Record}
 use Rattle.pipe_model.specs.Acting.{own}
-use Rattle.pipe_model.specs.Controller.{announced, is_live, view}
+use Rattle.pipe_model.specs.Controller.{announced, is_live, is_member, view}
 use Rattle.pipe_model.specs.Moments.{noted_hosts}
 use Rattle.pipe_model.specs.View.{View}
 use Rattle.pipe_model_atomic.specs.Present.{IsPresent}
@@ -34,5 +34,5 @@ AreReportedPaths graph past host time other =
 
 abbrev pub AreNotedOrCutOff : Graph → List Record → Type 0
 AreNotedOrCutOff graph past =
-    (host other : ℕ) (time : Ts) → time_of host (announced graph past) ≡ Some time → IsPresent graph past other
+    (host other : ℕ) (time : Ts) → time_of host (announced graph past) ≡ Some time → is_member graph past host ≡ true → IsPresent graph past other
     → (is_announced host (noted_hosts (own graph other past)) ≡ true) ⊎ IsCutOff graph past host time other

@@ -23,7 +23,7 @@ use Rattle.pipe_model.specs.OwnOutcome.{own_outcome, stamped, where_ok}
 use Rattle.pipe_model.specs.Run.{IsHistory, IsStep}
 use Rattle.pipe_model.specs.Sender.{sender_calls}
 use Rattle.pipe_model.proofs.Own.{own_more, own_same}
-use Rattle.pipe_model.proofs.Promises.{calls_after}
+use Rattle.pipe_model.proofs.Promises.{begun_after}
 
 ok_where : (o : Outcome) (stamp : ℕ) (ts : Ts) → where_ok o stamp ≡ Some ts → o ≡ Ok
 ok_where Ok stamp ts is = refl
@@ -76,12 +76,12 @@ begun_by graph past r n true mine step before =
     let o : List Record = own graph n past in
     let calls : List SenderCall = sender_calls graph n o in
     subst (λ (x : List Record). All (IsScatteringSent n (r ∷ past)) (begun (sender_calls graph n x))) (sym (own_more graph n r past mine))
-    (calls_after (λ (c : List SenderCall). All (IsScatteringSent n (r ∷ past)) (begun c)) graph n o r
+    (begun_after (λ (ss : List Scattering). All (IsScatteringSent n (r ∷ past)) ss) graph n o r
     (λ host now ts dests event stamp.
     let s : Scattering = record { ts = ts; dests = dests } in
     All-append (IsScatteringSent n (r ∷ past)) (begun calls) (s ∷ []) (later n past r (begun calls) before)
     (All-cons (IsScatteringSent n (r ∷ past)) s [] (started_sent graph past r n host now ts dests step mine event stamp) (All-nil (IsScatteringSent n (r ∷ past)))))
-    (λ c ts host all. all) (later n past r (begun calls) before))
+    (later n past r (begun calls) before))
 begun_by graph past r n false other step before =
     subst (λ (x : List Record). All (IsScatteringSent n (r ∷ past)) (begun (sender_calls graph n x))) (sym (own_same graph n r past other))
     (later n past r (begun (sender_calls graph n (own graph n past))) before)

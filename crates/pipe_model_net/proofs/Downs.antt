@@ -1,27 +1,31 @@
 -- Reports are true: a tick tells the marks of its node's in-links, and a mark stays.
-use Rattle.std.proofs.Common.{◌≡◌, ℕ, Bool, true, false, List, [], ◌∷◌, Option, None, Some, filter, refl, inl, inr, sym, subst, ap, ◌∙◌}
+use Rattle.std.proofs.Common.{◌≡◌, ℕ, Bool, true, false, List, [], ◌∷◌, ◌++◌, ◌&&◌, not, if◌then◌else◌, nat_lt, length, Option, None, Some, filter, refl, inl, inr, sym, subst, ap, ◌∙◌}
 use Rattle.std.specs.Prelude.{flat_map}
 use Rattle.std.specs.List.{All, Contains}
 use Rattle.std.proofs.lemmas.List.Elements.{All-nil, All-cons, All-append, All-contains_itself, All-filter, All-head, All-tail, Contains-append_left, Contains-append_right}
 use Rattle.pipe_base.specs.declared.control.Addressed.{Addressed}
-use Rattle.pipe_base.specs.declared.control.Control.TheVariants.{Down}
+use Rattle.pipe_base.specs.declared.control.Control.TheVariants.{Done, Down, Gone}
+use Rattle.pipe_base.specs.declared.control.To.TheVariants.{Controller}
 use Rattle.pipe_base.specs.declared.name.HostId.{HostId}
 use Rattle.pipe_base.specs.declared.name.LinkId.{LinkId}
+use Rattle.pipe_base.specs.declared.name.NodeId.{NodeId}
 use Rattle.pipe_base.specs.declared.name.Ts.{Ts}
 use Rattle.pipe_base.specs.declared.step.Step.{Step}
-use Rattle.pipe_base.specs.Graph.{Graph, head_of, ins_of}
+use Rattle.pipe_base.specs.Graph.{Graph, head_of, ins_of, is_host}
+use Rattle.pipe_base.specs.Settled.{is_recalling}
 use Rattle.pipe_base.specs.ShortestRoute.{not_dropped}
 use Rattle.pipe_model.specs.declared.event.Event.{Event}
 use Rattle.pipe_model.specs.declared.event.Event.TheVariants.{Tick}
 use Rattle.pipe_model.specs.declared.record.Record.{Record}
 use Rattle.pipe_model.specs.Acting.{is_own, own}
 use Rattle.pipe_model.specs.Controller.{view}
-use Rattle.pipe_model.specs.Decision.{after_decision, freeze, notice}
+use Rattle.pipe_model.specs.Decision.{drop_links, freeze, notice}
 use Rattle.pipe_model.specs.DownsTold.{AreDownsTrue, HasTold, IsDownTrue, control_put}
-use Rattle.pipe_model.specs.Duties.{control_of, down_told}
+use Rattle.pipe_model.specs.Duties.{control_of, done_told, down_told, downs_told, gone_told}
 use Rattle.pipe_model.specs.Marks.{mark}
-use Rattle.pipe_model.specs.Moments.{known_drops}
+use Rattle.pipe_model.specs.Moments.{known_drops, noted_hosts}
 use Rattle.pipe_model.specs.Run.{IsHistory, IsStep}
+use Rattle.pipe_model.specs.Sender.{sender_calls}
 use Rattle.pipe_model.specs.View.{View}
 use Rattle.pipe_model.proofs.Decisions.{nobodys_control}
 use Rattle.pipe_model.proofs.Links.{ComesIn, ins_come_in}
@@ -71,10 +75,25 @@ told_each graph node own (l ∷ ls) all =
     All-append (IsMarkOf graph node own) (down_told l (mark own l.0)) (flat_map (λ k. down_told k (mark own k.0)) ls)
     (told_one graph node own l (mark own l.0) (All-head (ComesIn graph node) l ls all) refl) (told_each graph node own ls (All-tail (ComesIn graph node) l ls all))
 
+-- the other messages of a tick report no link
+done_one : (b : Bool) (graph : Graph) (node : ℕ) (own : List Record) (host : HostId) (count : ℕ)
+    → All (IsMarkOf graph node own) (if b then record { to = Controller; control = Done host count } ∷ [] else [])
+done_one true graph node own host count = All-cons (IsMarkOf graph node own) _ [] (λ (link : LinkId) (value : Ts) same. cc) (All-nil (IsMarkOf graph node own))
+done_one false graph node own host count = All-nil (IsMarkOf graph node own)
+
+gone_one : (b : Bool) (graph : Graph) (node : ℕ) (own : List Record) (at : NodeId) (count : ℕ)
+    → All (IsMarkOf graph node own) (if b then record { to = Controller; control = Gone at count } ∷ [] else [])
+gone_one true graph node own at count = All-cons (IsMarkOf graph node own) _ [] (λ (link : LinkId) (value : Ts) same. cc) (All-nil (IsMarkOf graph node own))
+gone_one false graph node own at count = All-nil (IsMarkOf graph node own)
+
 told_now : (graph : Graph) (node : ℕ) (own : List Record) (event : Event) → All (IsMarkOf graph node own) (control_of graph node own event)
 told_now graph node own (Tick n now) =
-    told_each graph node own (filter (λ l. not_dropped (known_drops own) l.0) (ins_of graph node))
-    (All-filter (λ (l : LinkId). not_dropped (known_drops own) l.0) (ComesIn graph node) (ins_of graph node) (ins_come_in graph node))
+    All-append (IsMarkOf graph node own) (downs_told graph node own ++ done_told graph node own) (gone_told node own)
+    (All-append (IsMarkOf graph node own) (downs_told graph node own) (done_told graph node own)
+    (told_each graph node own (filter (λ l. not_dropped (known_drops own) l.0) (ins_of graph node))
+    (All-filter (λ (l : LinkId). not_dropped (known_drops own) l.0) (ComesIn graph node) (ins_of graph node) (ins_come_in graph node)))
+    (done_one (is_host graph node && (nat_lt 0 (length (noted_hosts own)) && not (is_recalling (sender_calls graph node own)))) graph node own (record { 0 = node }) (length (noted_hosts own))))
+    (gone_one (nat_lt 0 (length (known_drops own))) graph node own (record { 0 = node }) (length (known_drops own)))
 told_now graph node own _ = All-nil (IsMarkOf graph node own)
 
 -- what a node puts in a record, it has told after it
@@ -101,12 +120,15 @@ no_down_frozen graph past l link value is = cc
 no_down_noticed : (graph : Graph) (past : List Record) (v : View) (h : HostId) → IsDownTrue graph past (notice v h)
 no_down_noticed graph past v h link value is = cc
 
+no_down_dropped : (graph : Graph) (past : List Record) (v : View) (n : NodeId) → IsDownTrue graph past (drop_links v n)
+no_down_dropped graph past v n link value is = cc
+
 puts_true : (graph : Graph) (past : List Record) (r : Record) → IsStep graph past r → All (IsDownTrue graph (r ∷ past)) r.step.control
 puts_true graph past r step =
     elim (nobodys_or_own graph r) [
       | inl nobody ↦ subst (All (IsDownTrue graph (r ∷ past))) (sym (ap (λ (s : Step). s.control) (step.nobodys nobody)))
-          (nobodys_control (IsDownTrue graph (r ∷ past)) graph (view graph past) r.event r.step.outcome (no_down_frozen graph (r ∷ past))
-          (no_down_noticed graph (r ∷ past) (after_decision graph (view graph past))))
+          (nobodys_control (IsDownTrue graph (r ∷ past)) graph (view graph past) r.event r.took r.step.outcome (no_down_frozen graph (r ∷ past))
+          (no_down_noticed graph (r ∷ past) (view graph (r ∷ past))) (no_down_dropped graph (r ∷ past) (view graph (r ∷ past))))
       | inr mine ↦ puts_of_own graph past r mine.0 step mine.1
     ]
 

@@ -8,12 +8,13 @@ use Rattle.pipe_base.specs.declared.message.Service.{Service}
 use Rattle.pipe_base.specs.declared.packet.Packet.{Packet}
 use Rattle.pipe_base.specs.declared.step.Fate.{Fate}
 use Rattle.pipe_base.specs.declared.step.Fate.TheVariants.{Held}
+use Rattle.pipe_base.specs.Failed.{without_void}
 use Rattle.pipe_base.specs.Graph.{Graph, is_host}
 use Rattle.pipe_base.specs.Messages.{Messages, entry_of, from_barrier}
 use Rattle.pipe_base.proofs.KeyOrder.{insert_all}
 use Rattle.pipe_model.specs.declared.record.Record.{Record}
 use Rattle.pipe_model.specs.Acting.{is_own, own}
-use Rattle.pipe_model.specs.Fate.{failed_for, fate_for, with_held, held, plane_of}
+use Rattle.pipe_model.specs.Fate.{failed_for, fate_in, with_held, held, plane_of}
 use Rattle.pipe_model.specs.Got.{carries, gets_of, got, is_beacon, key_of, message_of}
 use Rattle.pipe_model.specs.Logged.{passed_in, entries_of, standing}
 use Rattle.pipe_model.specs.MessagesSent.{IsMessageSent}
@@ -78,7 +79,7 @@ held_sent_now : (service : Service) (graph : Graph) (past : List Record) (r : Re
     → All (SentTo service n past) (held service graph n (own graph n past)) → All (SentTo service n past) (held service graph n (r ∷ own graph n past))
 held_sent_now service graph past r n run step before =
     let o : List Record = own graph n past in
-    held_more (SentTo service n past) (fate_for (barrier_at (plane_of service) graph n o) (failed_for service o) (held service graph n o) (got service graph n o r))
+    held_more (SentTo service n past) (fate_in service graph n o r)
     (got service graph n o r) (held service graph n o) before (λ p is. got_sent service graph past r n (received o r) p run step refl is)
 
 later : (service : Service) (n : ℕ) (past : List Record) (r : Record) (ms : Messages) → All (SentTo service n past) ms → All (SentTo service n (r ∷ past)) ms
@@ -103,7 +104,8 @@ passed_sent service graph past r n run step =
     let o : List Record = own graph n past in
     All-filter _ (SentTo service n past) (from_barrier (barrier_at (plane_of service) graph n o) (standing service graph n (r ∷ o)))
     (All-filter _ (SentTo service n past) (standing service graph n (r ∷ o))
-    (All-filter _ (SentTo service n past) (held service graph n (r ∷ o)) (held_sent_now service graph past r n run step (held_sent service graph past n run))))
+    (All-filter _ (SentTo service n past) (without_void (failed_for service (r ∷ o)) (held service graph n (r ∷ o)))
+    (All-filter _ (SentTo service n past) (held service graph n (r ∷ o)) (held_sent_now service graph past r n run step (held_sent service graph past n run)))))
 
 logged_sent : (graph : Graph) (past : List Record) (r : Record) (n : ℕ) (service : Service) → IsHistory graph past → IsStep graph past r → LoggedWasSent graph n service r past
 logged_sent graph past r n service run step mine =

@@ -14,7 +14,9 @@ pub mod Prepared
 pub mod Promised
 pub mod PutInOrder
 pub mod Puts
+pub mod RecallAcks
 pub mod Receipts
 pub mod Sent
 pub mod Settled
+pub mod TakenBack
 pub mod Timely

@@ -17,7 +17,7 @@ use Rattle.pipe_base.specs.declared.packet.PacketKind.{PacketKind}
 use Rattle.pipe_base.specs.declared.packet.PacketKind.TheVariants.{Plain}
 use Rattle.pipe_base.specs.declared.packet.Plane.TheVariants as plane
 use Rattle.pipe_base.specs.declared.step.Fate.{Fate}
-use Rattle.pipe_base.specs.declared.step.Fate.TheVariants.{Held, Late, Repeat, Discarded}
+use Rattle.pipe_base.specs.declared.step.Fate.TheVariants.{Held, Late, Repeat, Discarded, Recalled}
 use Rattle.pipe_base.specs.declared.step.Outcome.{Outcome}
 use Rattle.pipe_base.specs.declared.step.Step.{Step}
 use Rattle.pipe_base.specs.Graph.{Graph, ins_of, is_host}
@@ -29,7 +29,7 @@ use Rattle.pipe_model.specs.declared.event.Event.{Event}
 use Rattle.pipe_model.specs.declared.record.Record.{Record}
 use Rattle.pipe_model.specs.Acting.{is_own, own}
 use Rattle.pipe_model.specs.Event.{IsOfGraph}
-use Rattle.pipe_model.specs.Fate.{fate, fate_for, fate_in, held}
+use Rattle.pipe_model.specs.Fate.{fate, fate_for, fate_in, held, recalled_for}
 use Rattle.pipe_model.specs.Got.{carries, gets_of, got, is_beacon, key_of, message_of}
 use Rattle.pipe_model.specs.Moments.{barrier_at, moments_of, received, noted_hosts}
 use Rattle.pipe_model.specs.NeverLate.{AreLinksOrdered, AreOfGraph, IsNeverLate, IsOfOldest, is_late, took_best}
@@ -98,17 +98,18 @@ run_settled graph (r ∷ past) run known ordered link =
 
 -- ---- no message is late
 
-among_fate : (repeated : Bool) → is_late (Some (if repeated then Repeat else Held)) ≡ false
-among_fate true = refl
-among_fate false = refl
+among_fate : (recalled repeated : Bool) → is_late (Some (if recalled then Recalled else if repeated then Repeat else Held)) ≡ false
+among_fate true repeated = refl
+among_fate false true = refl
+among_fate false false = refl
 
-void_fate : (void : Bool) (time : Ts) (ms : Messages) (key : Key) → is_late (Some (if void then Discarded time else fate_among ms key)) ≡ false
-void_fate true time ms key = refl
-void_fate false time ms key = among_fate (has_key key ms)
+void_fate : (void : Bool) (time : Ts) (recalled : Bool) (ms : Messages) (key : Key) → is_late (Some (if void then Discarded time else fate_among recalled ms key)) ≡ false
+void_fate true time recalled ms key = refl
+void_fate false time recalled ms key = among_fate recalled (has_key key ms)
 
-from_fate : (failed : Option Ts) (ms : Messages) (key : Key) → is_late (Some (fate_from failed ms key)) ≡ false
-from_fate None ms key = among_fate (has_key key ms)
-from_fate (Some time) ms key = void_fate (nat_le time.0 key.ts.0) time ms key
+from_fate : (failed : Option Ts) (recalled : Bool) (ms : Messages) (key : Key) → is_late (Some (fate_from failed recalled ms key)) ≡ false
+from_fate None recalled ms key = among_fate recalled (has_key key ms)
+from_fate (Some time) recalled ms key = void_fate (nat_le time.0 key.ts.0) time recalled ms key
 
 chosen_fate : (late : Bool) (barrier : Ts) (f : Fate) → late ≡ false → is_late (Some f) ≡ false → is_late (Some (if late then Late barrier else f)) ≡ false
 chosen_fate true barrier f never other = cc
@@ -117,11 +118,13 @@ chosen_fate false barrier f never other = other
 not_below : (barrier ts : ℕ) → barrier ≤ ts → nat_lt ts barrier ≡ false
 not_below barrier ts le = grind (arith, nat_tests, le)
 
-in_time : (barrier : ℕ) (failed : List Announced) (ms : Messages) (o : Option Packet) → ((p : Packet) → o ≡ Some p → barrier ≤ p.ts.0) → is_late (fate_for barrier failed ms o) ≡ false
-in_time barrier failed ms None above = refl
-in_time barrier failed ms (Some p) above =
-    chosen_fate (nat_lt p.ts.0 barrier) (record { 0 = barrier }) (fate_from (time_of p.src.0 failed) ms (key_of p)) (not_below barrier p.ts.0 (above p refl))
-    (from_fate (time_of p.src.0 failed) ms (key_of p))
+in_time : (barrier : ℕ) (failed : List Announced) (recalled : Key → Bool) (ms : Messages) (o : Option Packet) → ((p : Packet) → o ≡ Some p → barrier ≤ p.ts.0)
+    → is_late (fate_for barrier failed recalled ms o) ≡ false
+in_time barrier failed recalled ms None above = refl
+in_time barrier failed recalled ms (Some p) above =
+    let failed_at : Option Ts = time_of p.src.0 failed in
+    chosen_fate (nat_lt p.ts.0 barrier) (record { 0 = barrier }) (fate_from failed_at (recalled (key_of p)) ms (key_of p)) (not_below barrier p.ts.0 (above p refl))
+    (from_fate failed_at (recalled (key_of p)) ms (key_of p))
 
 -- the barrier before a receipt is at most what was received on its link
 barrier_before : (graph : Graph) (past : List Record) (node : ℕ) (q : ℕ × Packet) → IsReceipt graph past node q
@@ -149,7 +152,7 @@ best_in_time : (graph : Graph) (past : List Record) (r : Record) (node : ℕ) �
     → is_late (fate_in BestEffort graph node (own graph node past) r) ≡ false
 best_in_time graph past r node step mine settled =
     let o : List Record = own graph node past in
-    in_time (barrier_at plane.BestEffort graph node o) [] (held BestEffort graph node o) (got BestEffort graph node o r)
+    in_time (barrier_at plane.BestEffort graph node o) [] (recalled_for BestEffort graph node o) (held BestEffort graph node o) (got BestEffort graph node o r)
     (λ p got. got_above graph past r node (received o r) p step mine settled refl got)
 
 -- a record that took a best-effort message brings no reliable one
@@ -181,7 +184,7 @@ fate_in_time : (graph : Graph) (past : List Record) (r : Record) (node : ℕ) �
 fate_in_time graph past r node step mine settled best =
     let o : List Record = own graph node past in
     let only : fate graph node o r ≡ option_or (fate_in BestEffort graph node o r) None =
-    ap (λ (g : Option Packet). option_or (fate_in BestEffort graph node o r) (fate_for (barrier_at plane.Commit graph node o) (noted_hosts o) (held Reliable graph node o) g))
+    ap (λ (g : Option Packet). option_or (fate_in BestEffort graph node o r) (fate_for (barrier_at plane.Commit graph node o) (noted_hosts o) (recalled_for Reliable graph node o) (held Reliable graph node o) g))
     (took_no_reliable graph node o r best) in
     ap is_late only ∙ late_or_none (fate_in BestEffort graph node o r) (best_in_time graph past r node step mine settled)
 

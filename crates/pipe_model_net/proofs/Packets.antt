@@ -81,7 +81,7 @@ at_place P (y ∷ ys) (suc place) x all is = at_place P ys place x (All-tail P y
 
 -- what is asked of a property: it stays, and holds of what a record puts where it held of what the record took
 pub record IsKept (graph : Graph) (Q : List Record → Packet → Type 0) : Type 0 where
-  pub stays : (past : List Record) (r : Record) (p : Packet) → Q past p → Q (r ∷ past) p
+  pub stays : (past : List Record) (r : Record) (p : Packet) → IsHistory graph past → IsStep graph past r → Q past p → Q (r ∷ past) p
   pub starts : (past : List Record) (r : Record) → IsHistory graph past → IsStep graph past r → ((l : LinkId) (p : Packet) → r.took ≡ Link l p → Q past p)
       → All (λ q. Q (r ∷ past) q.1) r.step.put
 
@@ -98,7 +98,7 @@ packets_keep graph Q kept (r ∷ past) run link =
     chosen (is_cut link (r ∷ past)) (Q (r ∷ past)) [] (left_after link r.event r.step.outcome (waiting_on link past) ++ put_on link r.step.put) (All-nil (Q (r ∷ past)))
     (All-append (Q (r ∷ past)) (left_after link r.event r.step.outcome (waiting_on link past)) (put_on link r.step.put)
     (left_all (Q (r ∷ past)) link r.event r.step.outcome (waiting_on link past)
-    (All-weaker (Q past) (Q (r ∷ past)) (λ p. kept.stays past r p) (waiting_on link past) (before link)))
+    (All-weaker (Q past) (Q (r ∷ past)) (λ p. kept.stays past r p run.0 run.1) (waiting_on link past) (before link)))
     (put_all (Q (r ∷ past)) link r.step.put (kept.starts past r run.0 run.1 (λ l p took. taken_keeps graph Q past r l p run.1 before took))))
 
 -- ---- the packets that were received
@@ -114,11 +114,11 @@ received_more : (graph : Graph) (Q : List Record → Packet → Type 0) → IsKe
 received_more graph Q kept past r node run step b is before =
     let o : List Record = own graph node past in
     let stay : All (λ q. Q (r ∷ past) q.1) (receipts o) =
-    All-weaker (λ (q : ℕ × Packet). Q past q.1) (λ (q : ℕ × Packet). Q (r ∷ past) q.1) (λ (q : ℕ × Packet) holds. kept.stays past r q.1 holds) (receipts o) before in
+    All-weaker (λ (q : ℕ × Packet). Q past q.1) (λ (q : ℕ × Packet). Q (r ∷ past) q.1) (λ (q : ℕ × Packet) holds. kept.stays past r q.1 run step holds) (receipts o) before in
     let new : (q : ℕ × Packet) → received o r ≡ Some q → Q (r ∷ past) q.1 =
     λ q at.
     let w = receives graph past o r q step at in
-    kept.stays past r q.1 (at_place (Q past) (waiting_on q.0 past) w.place q.1 (packets_keep graph Q kept past run q.0) w.waited) in
+    kept.stays past r q.1 run step (at_place (Q past) (waiting_on q.0 past) w.place q.1 (packets_keep graph Q kept past run q.0) w.waited) in
     by_owner b is stay new
   where
     by_owner : (b : Bool) → is_own graph node r ≡ b → All (λ q. Q (r ∷ past) q.1) (receipts (own graph node past))

@@ -56,8 +56,10 @@ puts_carry plane graph node own r step =
     puts_each (Carries plane (field_in plane f)) graph node own r step (record {
       sent = λ host service now ts dests event stamp d among. sent_carries service plane host ts f d;
       resent = λ s among d listed. refl;
+      recalled = λ s among is d listed. refl;
       passed = λ q at half other. refl;
       answered = λ p gets_is host reliable holding. refl;
+      took_back = λ p gets_is host is. refl;
       beacon_too = refl;
     })
 

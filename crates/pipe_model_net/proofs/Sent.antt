@@ -12,7 +12,7 @@ use Rattle.pipe_base.specs.declared.packet.Packet.{Packet}
 use Rattle.pipe_base.specs.Graph.{Graph}
 use Rattle.pipe_base.specs.Messages.{entry_of}
 use Rattle.pipe_base.specs.Moment.{Moment, is_up}
-use Rattle.pipe_base.specs.Packets.{Fields, ack_to, beacon, forwarded, prepare_to, sent_to}
+use Rattle.pipe_base.specs.Packets.{Fields, ack_to, beacon, forwarded, prepare_to, recall_ack_to, recall_to, sent_to}
 use Rattle.pipe_base.specs.Scattering.{Scattering, SenderCall, begun}
 use Rattle.pipe_base.specs.Settled.{is_settled, unsettled}
 use Rattle.pipe_model.specs.declared.event.Event.{Event}
@@ -62,6 +62,15 @@ beacon_sent past f Reliable is = cc
 ack_sent : (past : List Record) (src : HostId) (f : Fields) (p : Packet) → IsMessageSent past (ack_to src f p)
 ack_sent past src f p BestEffort is = cc
 ack_sent past src f p Reliable is = cc
+
+-- nor does the taking back of a message, nor its answer
+recall_sent : (past : List Record) (src : HostId) (ts : Ts) (f : Fields) (d : HostId × List ℕ) → IsMessageSent past (recall_to src ts f d)
+recall_sent past src ts f d BestEffort is = cc
+recall_sent past src ts f d Reliable is = cc
+
+recall_ack_sent : (past : List Record) (src : HostId) (f : Fields) (p : Packet) → IsMessageSent past (recall_ack_to src f p)
+recall_ack_sent past src f p BestEffort is = cc
+recall_ack_sent past src f p Reliable is = cc
 
 -- what is sent to one receiver, as an entry of its log
 abbrev entry_to : HostId → Ts → (HostId × List ℕ) → Entry
@@ -113,9 +122,11 @@ puts_of_own graph past r n run step mine sent =
     puts_each (IsMessageSent (r ∷ past)) graph n o r (step.node n mine) (record {
       sent = λ host service now ts dests event stamp d among. sent_by graph past r n f host service now ts dests step mine event stamp d among;
       resent = λ s among d listed. resent_by graph past r n f s (run, step) mine among d listed;
+      recalled = λ s among is d listed. recall_sent (r ∷ past) (record { 0 = n }) s.ts f d;
       passed = λ q at half other.
           let took = received_took (moments_of o) r.event r.took q at in passed_sent past r f q.1 (sent took.0 q.1 took.1);
       answered = λ p got host reliable holding. ack_sent (r ∷ past) (record { 0 = n }) f p;
+      took_back = λ p got host is. recall_ack_sent (r ∷ past) (record { 0 = n }) f p;
       beacon_too = beacon_sent (r ∷ past) f;
     })
 
@@ -130,4 +141,4 @@ puts_sent graph past r run step sent =
 
 pub messages_sent : (graph : Graph) (past : List Record) → IsHistory graph past → AreMessagesSent graph past
 messages_sent graph past run =
-    all_packets_keep graph IsMessageSent (record { stays = λ past r p sent service is. inr (sent service is); starts = puts_sent graph }) past run
+    all_packets_keep graph IsMessageSent (record { stays = λ past r p before step sent service is. inr (sent service is); starts = puts_sent graph }) past run

@@ -94,8 +94,10 @@ puts_of_own graph past r node step mine settled =
     puts_each IsTimely graph node o r (step.rules.node node mine) (record {
       sent = λ host service now ts dests event stamp d among. sent_now graph past r node host service now ts dests step mine event stamp d;
       resent = λ s among d listed plain. cc;
+      recalled = λ s among is d listed plain. cc;
       passed = λ q at half other. forward_above graph past r node q step mine settled at half;
       answered = λ p gets_is host reliable holding plain. cc;
+      took_back = λ p gets_is host is plain. cc;
       beacon_too = λ plain. cc;
     })
 

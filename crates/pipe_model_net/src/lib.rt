@@ -1,15 +1,18 @@
-//! Laws of every run, between the nodes: what is logged and what travels was sent, what an acknowledgement tells, the events
-//! determine all that happens, what bounds the barriers on a link, what the controller is told of links that are down, and that
-//! best effort is never late where links keep order.
+//! Laws of every run, between the nodes: what is logged and what travels was sent, what an acknowledgement, a recall and its
+//! answer tell, the events determine all that happens, what bounds the barriers on a link, what the controller is told of links
+//! that are down, and that best effort is never late where links keep order.
 #![tactic(auto)]
 
-ghost use Rattle.std.specs.Prelude.{◌≡◌, ℕ, All, List, map, reverse};
+ghost use Rattle.std.specs.Prelude.{◌≡◌, ℕ, All, List, map, reverse, true};
 ghost use Rattle.pipe_base.specs.declared.packet.Plane.{Plane};
 ghost use Rattle.pipe_base.specs.Graph.{Graph, tail_of};
+ghost use Rattle.pipe_base.specs.Scattering.{Scattering};
+ghost use Rattle.pipe_base.specs.Settled.{is_recall_acked};
 ghost use Rattle.pipe_model.specs.declared.event.Event.{Event};
 ghost use Rattle.pipe_model.specs.declared.record.Record.{Record};
 ghost use Rattle.pipe_model.specs.Acknowledged.{AreAcksTrue};
 ghost use Rattle.pipe_model.specs.Acting.{own};
+ghost use Rattle.pipe_model.specs.AllOrNone.{key_from};
 ghost use Rattle.pipe_model.specs.DownsTold.{AreDownsTrue};
 ghost use Rattle.pipe_model.specs.Event.{IsOfGraph};
 ghost use Rattle.pipe_model.specs.MessagesSent.{AreMessagesSent};
@@ -17,7 +20,10 @@ ghost use Rattle.pipe_model.specs.NeverLate.{AreLinksOrdered, AreOfGraph, IsNeve
 ghost use Rattle.pipe_model.specs.OnLink.{AreFieldsPromised, AreSomeOf, NeverFalls, put_along};
 ghost use Rattle.pipe_model.specs.Order.{IsGenuine};
 ghost use Rattle.pipe_model.specs.PreparedHeld.{ArePreparedHeld};
+ghost use Rattle.pipe_model.specs.Recalled.{AreRecallAcksTrue, AreRecallsTrue};
+ghost use Rattle.pipe_model.specs.Recalls.{got_recall};
 ghost use Rattle.pipe_model.specs.Run.{IsHistory, IsNodeHistory, IsRun, event_of};
+ghost use Rattle.pipe_model.specs.Sender.{sender_calls};
 ghost use Rattle.pipe_model.specs.Waiting.{waiting_on};
 
 /// Genuineness: in every run, what is logged was sent before to that host and with that body.
@@ -39,6 +45,22 @@ pub fn acknowledgements_are_true()
 /// In every run, where a reliable scattering is prepared, each of its receivers held it.
 pub fn prepared_scatterings_are_held()
     ensures { (graph : Graph) (past : List Record) → IsHistory graph past → ArePreparedHeld graph past }
+{}
+
+/// In every run, each recall that waits or was received means that its sender recalled the scattering.
+pub fn recalls_are_true()
+    ensures { (graph : Graph) (past : List Record) → IsHistory graph past → AreRecallsTrue graph past }
+{}
+
+/// In every run, each answer to a recall that waits or was received means that the host that sent it got the recall.
+pub fn recall_acknowledgements_are_true()
+    ensures { (graph : Graph) (past : List Record) → IsHistory graph past → AreRecallAcksTrue graph past }
+{}
+
+/// In every run, where a host counts a receiver's answer to a recall of a scattering, the receiver got the recall.
+pub fn acknowledged_recalls_were_got()
+    ensures { (graph : Graph) (past : List Record) → IsHistory graph past → (host other : ℕ) (s : Scattering)
+        → is_recall_acked (sender_calls graph host (own graph host past)) s other ≡ true → got_recall graph other (key_from host s) (own graph other past) ≡ true }
 {}
 
 /// The events determine a run: two runs of the same events over the same graph are equal, record by record.

@@ -2,3 +2,4 @@ pub mod Causal
 pub mod MarkedOnce
 pub mod Ordered
 pub mod Passed
+pub mod Untaken

@@ -13,7 +13,7 @@ use Rattle.pipe_base.specs.Graph.{Graph}
 use Rattle.pipe_base.specs.Messages.{Messages, Before, IsInOrder, entry_of, from_barrier, below_barrier}
 use Rattle.pipe_base.proofs.KeyOrder.{order_with, order_filter}
 use Rattle.pipe_model.specs.declared.record.Record.{Record}
-use Rattle.pipe_model.specs.Fate.{failed_for, plane_of, fate_for, with_held, held}
+use Rattle.pipe_model.specs.Fate.{plane_of, fate_in, with_held, held}
 use Rattle.pipe_model.specs.Got.{key_of, got}
 use Rattle.pipe_model.specs.Logged.{passed_in, log, entries_of, standing}
 use Rattle.pipe_model.specs.Moments.{barrier_at}
@@ -48,7 +48,7 @@ order_more _ _ ms order = order
 pub held_in_order : (service : Service) (graph : Graph) (node : ℕ) (own : List Record) → IsInOrder (held service graph node own)
 held_in_order service graph node [] = tt
 held_in_order service graph node (r ∷ own) =
-    order_more (fate_for (barrier_at (plane_of service) graph node own) (failed_for service own) (held service graph node own) (got service graph node own r))
+    order_more (fate_in service graph node own r)
     (got service graph node own r) (held service graph node own) (held_in_order service graph node own)
 
 -- what a record passes of a service: in order, from the barrier before on, and below the barrier after
@@ -58,7 +58,7 @@ barrier_of service graph node own = barrier_at (plane_of service) graph node own
 passed_rises : (service : Service) (graph : Graph) (node : ℕ) (own : List Record) (r : Record) → IsRising (map entry_of (passed_in service graph node own r))
 passed_rises service graph node own r =
     rising_entries (passed_in service graph node own r)
-    (order_filter _ _ (order_filter _ _ (order_filter _ (held service graph node (r ∷ own)) (held_in_order service graph node (r ∷ own)))))
+    (order_filter _ _ (order_filter _ _ (order_filter _ _ (order_filter _ (held service graph node (r ∷ own)) (held_in_order service graph node (r ∷ own))))))
 
 is_below : (bound : ℕ) (m : Key × List ℕ) → nat_lt m.0.ts.0 bound ≡ true → m.0.ts.0 < bound
 is_below bound m is = grind (arith, nat_tests, is)

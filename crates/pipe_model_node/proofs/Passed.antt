@@ -8,11 +8,12 @@ use Rattle.pipe_base.specs.declared.control.Announced.{Announced}
 use Rattle.pipe_base.specs.declared.message.Key.{Key}
 use Rattle.pipe_base.specs.declared.message.Entry.{Entry}
 use Rattle.pipe_base.specs.declared.message.Service.TheVariants.{Reliable}
+use Rattle.pipe_base.specs.declared.name.Ts.{Ts}
 use Rattle.pipe_base.specs.declared.packet.Packet.{Packet}
 use Rattle.pipe_base.specs.declared.packet.Plane.TheVariants.{Commit}
 use Rattle.pipe_base.specs.declared.step.Fate.{Fate}
 use Rattle.pipe_base.specs.declared.step.Fate.TheVariants.{Held, Late}
-use Rattle.pipe_base.specs.Failed.{is_void, time_of}
+use Rattle.pipe_base.specs.Failed.{is_void, time_of, without_void}
 use Rattle.pipe_base.specs.Fate.{fate_from}
 use Rattle.pipe_base.specs.Graph.{Graph}
 use Rattle.pipe_base.specs.Messages.{Messages, below_barrier, entry_of, from_barrier, has_key, same_key}
@@ -23,9 +24,11 @@ use Rattle.pipe_model.specs.Fate.{fate_for, held, with_held}
 use Rattle.pipe_model.specs.Got.{got, key_of}
 use Rattle.pipe_model.specs.Logged.{entries_of, log, passed_in, standing}
 use Rattle.pipe_model.specs.Moments.{barrier_at, noted_hosts}
+use Rattle.pipe_model.specs.Recalls.{got_recall}
 use Rattle.pipe_model.specs.Run.{IsNodeHistory, IsNodeStep}
 use Rattle.pipe_model.proofs.Entries.{entries_logged}
-use Rattle.pipe_model.proofs.Void.{has_without, not_void_before}
+use Rattle.pipe_model.proofs.Recalls.{not_recalled_before, recall_of_keys}
+use Rattle.pipe_model.proofs.Void.{has_without, has_without_keys, not_void_before}
 
 -- ---- what is below the barrier is not held anew
 
@@ -38,12 +41,12 @@ held_any : (f : Option Fate) (p : Packet) (key : Key) (ms : Messages) → has_ke
 held_any (Some Held) p key ms has = or_cases (same_key (key_of p) key) (has_key key ms) (sym (has_with (key_of p) p.body key ms) ∙ has)
 held_any _ p key ms has = inr has
 
-held_by : (late : Bool) (barrier : ℕ) (failed : List Announced) (p : Packet) (key : Key) (ms : Messages) → nat_lt p.ts.0 barrier ≡ late → key.ts.0 < barrier
-    → has_key key (with_held (Some (if late then Late (record { 0 = barrier }) else fate_from (time_of p.src.0 failed) ms (key_of p))) (Some p) ms) ≡ true
+held_by : (late : Bool) (barrier : ℕ) (failed : Option Ts) (recalled : Bool) (p : Packet) (key : Key) (ms : Messages) → nat_lt p.ts.0 barrier ≡ late → key.ts.0 < barrier
+    → has_key key (with_held (Some (if late then Late (record { 0 = barrier }) else fate_from failed recalled ms (key_of p))) (Some p) ms) ≡ true
     → has_key key ms ≡ true
-held_by true barrier failed p key ms in_time early has = has
-held_by false barrier failed p key ms in_time early has =
-    elim (held_any (Some (fate_from (time_of p.src.0 failed) ms (key_of p))) p key ms has) [
+held_by true barrier failed recalled p key ms in_time early has = has
+held_by false barrier failed recalled p key ms in_time early has =
+    elim (held_any (Some (fate_from failed recalled ms (key_of p))) p key ms has) [
       | inl same ↦
           let time : p.ts.0 ≡ key.ts.0 = eqb-true p.ts.0 key.ts.0 (and_parts (p.ts.0 == key.ts.0) (p.src.0 == key.src.0) same).0 in
           let low : barrier ≤ p.ts.0 = at_least barrier p.ts.0 in_time in
@@ -51,10 +54,11 @@ held_by false barrier failed p key ms in_time early has =
       | inr before ↦ before
     ]
 
-held_before : (barrier : ℕ) (failed : List Announced) (o : Option Packet) (key : Key) (ms : Messages) → key.ts.0 < barrier
-    → has_key key (with_held (fate_for barrier failed ms o) o ms) ≡ true → has_key key ms ≡ true
-held_before barrier failed None key ms early has = has
-held_before barrier failed (Some p) key ms early has = held_by (nat_lt p.ts.0 barrier) barrier failed p key ms refl early has
+held_before : (barrier : ℕ) (failed : List Announced) (recalled : Key → Bool) (o : Option Packet) (key : Key) (ms : Messages) → key.ts.0 < barrier
+    → has_key key (with_held (fate_for barrier failed recalled ms o) o ms) ≡ true → has_key key ms ≡ true
+held_before barrier failed recalled None key ms early has = has
+held_before barrier failed recalled (Some p) key ms early has =
+    held_by (nat_lt p.ts.0 barrier) barrier (time_of p.src.0 failed) (recalled (key_of p)) p key ms refl early has
 
 -- ---- what the record passes is in its log
 
@@ -79,24 +83,31 @@ has_below barrier key (m ∷ ms) early has =
     ]
 
 -- some entry has the key
-abbrev has_entry : Key → List Entry → Bool
+abbrev pub has_entry : Key → List Entry → Bool
 has_entry key es = list_any (λ e. same_key e.key key) es
 
-has_entries : (key : Key) (ms : Messages) → has_entry key (map entry_of ms) ≡ has_key key ms
+pub has_entries : (key : Key) (ms : Messages) → has_entry key (map entry_of ms) ≡ has_key key ms
 has_entries key [] = refl
 has_entries key (m ∷ ms) = ap (λ (b : Bool). same_key m.0 key || b) (has_entries key ms)
 
+-- a message that is held, not void and not taken back stands
+stands_now : (graph : Graph) (node : ℕ) (own : List Record) (key : Key) → has_key key (held Reliable graph node own) ≡ true → got_recall graph node key own ≡ false
+    → is_void (noted_hosts own) key ≡ false → has_key key (standing Reliable graph node own) ≡ true
+stands_now graph node own key has wanted stays =
+    let ms : Messages = held Reliable graph node own in
+    has_without_keys (λ (k : Key). got_recall graph node k own) key (without_void (noted_hosts own) ms) (recall_of_keys graph node own) wanted
+    (has_without (noted_hosts own) key ms stays has)
+
 passed_now : (graph : Graph) (node : ℕ) (own : List Record) (r : Record) (key : Key) → IsNodeStep graph node own r
-    → barrier_at Commit graph node own ≤ key.ts.0 → key.ts.0 < barrier_at Commit graph node (r ∷ own) → is_void (noted_hosts (r ∷ own)) key ≡ false
-    → has_key key (held Reliable graph node (r ∷ own)) ≡ true
+    → barrier_at Commit graph node own ≤ key.ts.0 → key.ts.0 < barrier_at Commit graph node (r ∷ own) → has_key key (standing Reliable graph node (r ∷ own)) ≡ true
     → has_entry key (entries_of Reliable r.step.logged) ≡ true
-passed_now graph node own r key step low passed stays has =
+passed_now graph node own r key step low passed stands =
     let ms : Messages = standing Reliable graph node (r ∷ own) in
     let before : ℕ = barrier_at Commit graph node own in
     let after : ℕ = barrier_at Commit graph node (r ∷ own) in
     ap (has_entry key) (ap (entries_of Reliable) step.logged_is ∙ entries_logged Reliable graph node own r)
     ∙ has_entries key (passed_in Reliable graph node own r)
-    ∙ has_below after key (from_barrier before ms) passed (has_from before key ms low ∙ has_without (noted_hosts (r ∷ own)) key (held Reliable graph node (r ∷ own)) stays has)
+    ∙ has_below after key (from_barrier before ms) passed (has_from before key ms low ∙ stands)
 
 -- ---- along the node's records
 
@@ -110,14 +121,14 @@ logged_either key own r (inr now) =
     ∙ or_right (has_logged key own) (has_entry key (entries_of Reliable r.step.logged)) now
 
 pub passed_logged : (graph : Graph) (node : ℕ) (own : List Record) (key : Key) → IsNodeHistory graph node own → has_key key (held Reliable graph node own) ≡ true
-    → is_void (noted_hosts own) key ≡ false → key.ts.0 < barrier_at Commit graph node own → has_logged key own ≡ true
-passed_logged graph node [] key history has stays passed = absurd (omega (arith, passed))
-passed_logged graph node (r ∷ own) key history has stays passed =
+    → got_recall graph node key own ≡ false → is_void (noted_hosts own) key ≡ false → key.ts.0 < barrier_at Commit graph node own → has_logged key own ≡ true
+passed_logged graph node [] key history has wanted stays passed = absurd (omega (arith, passed))
+passed_logged graph node (r ∷ own) key history has wanted stays passed =
     let before : ℕ = barrier_at Commit graph node own in
     logged_either key own r
     (elim (cases_lt key.ts.0 before) [
       | inl early ↦ inl (passed_logged graph node own key history.0
-          (held_before before (noted_hosts own) (got Reliable graph node own r) key (held Reliable graph node own) early has)
-          (not_void_before (noted_hosts own) r.step.noted key stays) early)
-      | inr low ↦ inr (passed_now graph node own r key history.1 low passed stays has)
+          (held_before before (noted_hosts own) (λ k. got_recall graph node k own) (got Reliable graph node own r) key (held Reliable graph node own) early has)
+          (not_recalled_before graph node key own r wanted) (not_void_before (noted_hosts own) r.step.noted key stays) early)
+      | inr low ↦ inr (passed_now graph node own r key history.1 low passed (stands_now graph node (r ∷ own) key has wanted stays))
     ])

@@ -22,11 +22,11 @@ ghost use Rattle.pipe_model.specs.declared.record.Record.{Record};
 ghost use Rattle.pipe_model.specs.AllOrNone.{has_logged};
 ghost use Rattle.pipe_model.specs.Clock.{next, promise};
 ghost use Rattle.pipe_model.specs.Fate.{held};
-ghost use Rattle.pipe_model.specs.LateMessage.{got_recall};
 ghost use Rattle.pipe_model.specs.Logged.{log};
 ghost use Rattle.pipe_model.specs.Marks.{mark, marks};
 ghost use Rattle.pipe_model.specs.Moments.{barrier_at, moments_of, noted_hosts};
 ghost use Rattle.pipe_model.specs.Order.{IsRising, IsCausal, AreLogsOrdered, AreStampsCausal};
+ghost use Rattle.pipe_model.specs.Recalls.{got_recall, recalled_in_time};
 ghost use Rattle.pipe_model.specs.Run.{IsHistory, IsNodeHistory};
 ghost use Rattle.pipe_model.specs.Sender.{sender_calls};
 
@@ -96,4 +96,13 @@ pub fn windows_hold()
 pub fn passed_messages_are_logged()
     ensures { (graph : Graph) (node : ℕ) (own : List Record) (key : Key) → IsNodeHistory graph node own → has_key key (held Reliable graph node own) ≡ true
         → got_recall graph node key own ≡ false → is_void (noted_hosts own) key ≡ false → key.ts.0 < barrier_at Commit graph node own → has_logged key own ≡ true }
+{}
+
+/// Whatever one node is handed, a message that it was told to take back before its commit barrier was above the timestamp is
+/// never in its log. What it was told to take back, with the barrier not above the timestamp now, it was told so in time.
+pub fn recalled_messages_are_not_logged()
+    ensures never { (graph : Graph) (node : ℕ) (own : List Record) (key : Key) → IsNodeHistory graph node own
+        → recalled_in_time graph node key own ≡ true → has_logged key own ≡ false }
+    ensures in_time { (graph : Graph) (node : ℕ) (own : List Record) (key : Key) → got_recall graph node key own ≡ true
+        → barrier_at Commit graph node own ≤ key.ts.0 → recalled_in_time graph node key own ≡ true }
 {}

@@ -1,3 +1,5 @@
+pub mod KeptLaws
 pub mod MarkLaws
 pub mod PlaceLaws
+pub mod RecallLaws
 pub mod SendingLaws

@@ -1,25 +1,27 @@
 -- Marks against the receivers that they belong to.
-use Rattle.std.proofs.Common.{◌≡◌, ◌≢◌, ℕ, ◌+◌, zero, suc, replicate, set, eq-eqb, below_more, get_or-set_same, get_or-set_other, ◌<◌, ◌≤◌, ◌||◌, ◌==◌, not, Bool, true, false, List, [], ◌∷◌, length, get_or, take, drop, map, filter, refl, sym, ap, ap₂, arith, ◌∙◌, if◌then◌else◌}
+use Rattle.std.proofs.Common.{◌≡◌, ◌≢◌, ℕ, ◌+◌, zero, suc, replicate, set, below_more, get_or-set_same, get_or-set_other, ◌<◌, ◌≤◌, ◌||◌, ◌==◌, not, Bool, true, false, List, [], ◌∷◌, length, get_or, take, drop, map, filter, refl, sym, ap, ap₂, arith, ◌∙◌, if◌then◌else◌}
+use Rattle.std.specs.Prelude.{zip}
+use Rattle.std.specs.List.{list_any}
 use Rattle.std.proofs.lemmas.Bool.Decides.{nat_tests}
 use Rattle.std.proofs.lemmas.List.{get_or_default}
 use Rattle.pipe_base.specs.declared.name.HostId.{HostId}
-use Rattle.pipe_relsend.specs.Preparation.{marked, open_dests}
+use Rattle.pipe_relsend.specs.Pending.{marked, open_dests}
 
 -- marks that are set one by one
-pub marks_are : (host : ℕ) (ds : List (HostId × List ℕ)) (new old : List Bool) → length ds ≤ length new → length ds ≤ length old
-    → ((k : ℕ) (d : HostId × List ℕ) → k < length ds → get_or new k false ≡ (get_or old k false || ((get_or ds k d).0.0 == host)))
-    → take (length ds) new ≡ marked host ds (take (length ds) old)
-marks_are host [] new old more much reads = refl
-marks_are host (d ∷ ds) [] old more much reads = absurd (omega arith)
-marks_are host (d ∷ ds) (x ∷ new) [] more much reads = absurd (omega arith)
-marks_are host (d ∷ ds) (x ∷ new) (y ∷ old) more much reads =
-    let first : x ≡ (y || (d.0.0 == host)) = reads 0 d (omega arith) in
-    ap₂ {A = Bool} {B = List Bool} {C = List Bool} (λ b bs. b ∷ bs) first (marks_are host ds new old (omega arith) (omega arith) (λ k e lt. reads (suc k) e (omega arith)))
+pub marks_are : (test : HostId × List ℕ → Bool) (ds : List (HostId × List ℕ)) (new old : List Bool) → length ds ≤ length new → length ds ≤ length old
+    → ((k : ℕ) (d : HostId × List ℕ) → k < length ds → get_or new k false ≡ (get_or old k false || test (get_or ds k d)))
+    → take (length ds) new ≡ marked test ds (take (length ds) old)
+marks_are test [] new old more much reads = refl
+marks_are test (d ∷ ds) [] old more much reads = absurd (omega arith)
+marks_are test (d ∷ ds) (x ∷ new) [] more much reads = absurd (omega arith)
+marks_are test (d ∷ ds) (x ∷ new) (y ∷ old) more much reads =
+    let first : x ≡ (y || test d) = reads 0 d (omega arith) in
+    ap₂ {A = Bool} {B = List Bool} {C = List Bool} (λ b bs. b ∷ bs) first (marks_are test ds new old (omega arith) (omega arith) (λ k e lt. reads (suc k) e (omega arith)))
 
 -- marks that are a function of the receivers
-pub marked_by : (host : ℕ) (f : HostId × List ℕ → Bool) (ds : List (HostId × List ℕ)) → marked host ds (map f ds) ≡ map (λ d. f d || (d.0.0 == host)) ds
-marked_by host f [] = refl
-marked_by host f (d ∷ ds) = ap (λ (bs : List Bool). (f d || (d.0.0 == host)) ∷ bs) (marked_by host f ds)
+pub marked_by : (test f : HostId × List ℕ → Bool) (ds : List (HostId × List ℕ)) → marked test ds (map f ds) ≡ map (λ d. f d || test d) ds
+marked_by test f [] = refl
+marked_by test f (d ∷ ds) = ap (λ (bs : List Bool). (f d || test d) ∷ bs) (marked_by test f ds)
 
 open_more : (b : Bool) (d : HostId × List ℕ) (xs ys : List (HostId × List ℕ)) → xs ≡ ys → (if b then xs else d ∷ xs) ≡ (if not b then d ∷ ys else ys)
 open_more true d xs ys is = is
@@ -68,28 +70,36 @@ or_false : (b : Bool) → (b || false) ≡ b
 or_false true = refl
 or_false false = refl
 
--- one mark more
-abbrev AreMarked : ℕ → List (HostId × List ℕ) → List Bool → List Bool → ℕ → Type 0
-AreMarked host ds start marks k = (d : HostId × List ℕ) → get_or marks k false ≡ (get_or start k false || ((get_or ds k d).0.0 == host))
+-- another host
+pub other_host : (a b : ℕ) → a ≢ b → (a == b) ≡ false
+other_host a b other = grind (arith, nat_tests, other)
 
-pub mark_here : (host : ℕ) (ds : List (HostId × List ℕ)) (start marks : List Bool) (at : ℕ) (e : HostId × List ℕ) → at < length ds → at < length marks
-    → ((k : ℕ) (d : HostId × List ℕ) → k < at → get_or marks k false ≡ (get_or start k false || ((get_or ds k d).0.0 == host)))
-    → e ≡ get_or ds at e → e.0.0 ≡ host → (k : ℕ) (d : HostId × List ℕ) → k < at + 1 → get_or (set marks at true) k false ≡ (get_or start k false || ((get_or ds k d).0.0 == host))
-mark_here host ds start marks at e within room done is same k d below =
-    below_more (AreMarked host ds start (set marks at true)) at
+-- one mark more
+abbrev AreMarked : (HostId × List ℕ → Bool) → List (HostId × List ℕ) → List Bool → List Bool → ℕ → Type 0
+AreMarked test ds start marks k = (d : HostId × List ℕ) → get_or marks k false ≡ (get_or start k false || test (get_or ds k d))
+
+pub mark_here : (test : HostId × List ℕ → Bool) (ds : List (HostId × List ℕ)) (start marks : List Bool) (at : ℕ) (e : HostId × List ℕ) → at < length ds → at < length marks
+    → ((k : ℕ) (d : HostId × List ℕ) → k < at → get_or marks k false ≡ (get_or start k false || test (get_or ds k d)))
+    → e ≡ get_or ds at e → test e ≡ true → (k : ℕ) (d : HostId × List ℕ) → k < at + 1 → get_or (set marks at true) k false ≡ (get_or start k false || test (get_or ds k d))
+mark_here test ds start marks at e within room done is passes k d below =
+    below_more (AreMarked test ds start (set marks at true)) at
     (λ j lt c. let ne : j ≢ at = omega arith in rw get_or-set_other (done j c lt))
     (λ c.
-    let this : get_or ds at c ≡ e = get_or_default ds at c e within ∙ sym is in
-    let test : ((get_or ds at c).0.0 == host) ≡ true = eq-eqb (get_or ds at c).0.0 host (ap {B = ℕ} (λ (x : HostId × List ℕ). x.0.0) this ∙ same) in
-    get_or-set_same marks at true false room ∙ sym (rw test (or_true (get_or start at false)))) k below d
+    let here : test (get_or ds at c) ≡ true = ap test (get_or_default ds at c e within ∙ sym is) ∙ passes in
+    get_or-set_same marks at true false room ∙ sym (rw here (or_true (get_or start at false)))) k below d
 
-pub mark_none : (host : ℕ) (ds : List (HostId × List ℕ)) (start marks : List Bool) (at : ℕ) (e : HostId × List ℕ) → at < length ds
-    → ((k : ℕ) (d : HostId × List ℕ) → k < at → get_or marks k false ≡ (get_or start k false || ((get_or ds k d).0.0 == host)))
-    → get_or marks at false ≡ get_or start at false → e ≡ get_or ds at e → e.0.0 ≢ host
-    → (k : ℕ) (d : HostId × List ℕ) → k < at + 1 → get_or marks k false ≡ (get_or start k false || ((get_or ds k d).0.0 == host))
-mark_none host ds start marks at e within done kept is other k d below =
-    below_more (AreMarked host ds start marks) at (λ j lt c. done j c lt)
+pub mark_none : (test : HostId × List ℕ → Bool) (ds : List (HostId × List ℕ)) (start marks : List Bool) (at : ℕ) (e : HostId × List ℕ) → at < length ds
+    → ((k : ℕ) (d : HostId × List ℕ) → k < at → get_or marks k false ≡ (get_or start k false || test (get_or ds k d)))
+    → get_or marks at false ≡ get_or start at false → e ≡ get_or ds at e → test e ≡ false
+    → (k : ℕ) (d : HostId × List ℕ) → k < at + 1 → get_or marks k false ≡ (get_or start k false || test (get_or ds k d))
+mark_none test ds start marks at e within done kept is fails k d below =
+    below_more (AreMarked test ds start marks) at (λ j lt c. done j c lt)
     (λ c.
-    let this : (get_or ds at c).0.0 ≡ e.0.0 = ap {B = ℕ} (λ (x : HostId × List ℕ). x.0.0) (get_or_default ds at c e within ∙ sym is) in
-    let test : ((get_or ds at c).0.0 == host) ≡ false = grind (arith, nat_tests, this, other) in
-    kept ∙ sym (rw test (or_false (get_or start at false)))) k below d
+    let here : test (get_or ds at c) ≡ false = ap test (get_or_default ds at c e within ∙ sym is) ∙ fails in
+    kept ∙ sym (rw here (or_false (get_or start at false)))) k below d
+
+-- what is beside the receivers is a function of them
+pub any_beside : (f : HostId × List ℕ → Bool) (test : (HostId × List ℕ) × Bool → Bool) (ds : List (HostId × List ℕ))
+    → list_any test (zip ds (map f ds)) ≡ list_any (λ d. test (d, f d)) ds
+any_beside f test [] = refl
+any_beside f test (d ∷ ds) = ap (λ (b : Bool). test (d, f d) || b) (any_beside f test ds)

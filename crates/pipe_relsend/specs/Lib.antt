@@ -1,3 +1,4 @@
 pub mod Header
-pub mod Preparation
+pub mod Pending
 pub mod Sending
+pub mod State

@@ -1,28 +1,33 @@
 // The sender: the reliable scatterings of one host that are not settled.
 ghost use Rattle.std.specs.Prelude.{◌≡◌, ◌<◌, ◌≤◌, ◌+◌, ◌-◌, ◌^◌, ◌↔◌, ◌++◌, ◌∷◌, [], ℕ, List, length, flat_map, insert, vec_len, vec_capacity, IfErr, IfOk, IsOk, MatchOption, OnErr, OnOk, All, ◌≢◌};
+ghost use Rattle.std.specs.List.{list_any};
 ghost use Rattle.pipe_base.specs.Limits.{most_receivers, most_unsettled};
 ghost use Rattle.pipe_base.specs.Promise.{promise_of};
 ghost use Rattle.pipe_base.specs.Resends.{resends};
-ghost use Rattle.pipe_base.specs.Scattering.{Scattering, SenderCall, Acked, Began, IsAboveBegun};
-ghost use Rattle.pipe_base.specs.Settled.{unsettled};
+ghost use Rattle.pipe_base.specs.Scattering.{Scattering, SenderCall, Acked, Began, IsAboveBegun, RecallAcked, Noted as HasNoted};
+ghost use Rattle.pipe_base.specs.Settled.{is_recalled, unsettled};
 ghost use Rattle.pipe_base.specs.ShortestRoute.{picked};
 ghost use Rattle.pipe_base.specs.Ways.{PutsAlone, with_ways};
-ghost use Rattle.pipe_relsend.specs.Preparation.{Preparation, prepares, started};
-ghost use Rattle.pipe_relsend.specs.Sending.{IsPlaceOf, Stands, after_ack, first_or};
+ghost use Rattle.pipe_relsend.specs.Header.{fields_of};
+ghost use Rattle.pipe_relsend.specs.Pending.{Pending, owed, started};
+ghost use Rattle.pipe_relsend.specs.Sending.{IsPlaceOf, KnowsAll, Stands, after_ack, after_recall_ack, answered, first_or, noted};
 
-use crate::{AckStep, Preparing};
-use pipe_base::{DestList, HostId, NoMemory, Router, Step, Ts, UNSETTLED_LIMIT};
+use crate::Preparing;
+use crate::resend::Origin;
+use crate::state::{Answer, Unsettled};
+use pipe_base::{DestList, HostId, NoMemory, Noted, Router, Step, Ts, UNSETTLED_LIMIT};
 use std::alloc::{AllocFailed, Global};
 use std::marker::Model;
 
 /// The reliable scatterings that are not settled, in the order begun. Room for as many as there may be is taken at the start.
 ///
-/// A host asks first what a step would lead to (`promise`, `promise_after_ack`, `resends`), which changes nothing. A scattering
+/// A host asks first what a step would lead to (`promise`, `promise_after_ack`, `promise_after_recall_ack`, `resends`), which
+/// changes nothing. A scattering
 /// that was begun for a step that is refused is taken back by `unbegin`. Otherwise a scattering leaves by being settled alone;
 /// where the sender itself is dropped, those that it still has end with it.
 pub struct Sender {
     alloc: Global,
-    pending: Vec<Preparing>,
+    pending: Vec<Unsettled>,
 }
 
 /// As many scatterings are not settled as there may be. The list comes back.
@@ -34,9 +39,9 @@ pub struct Window {
 impl Model for Sender {
     ghost use Rattle.std.specs.Prelude.{List, length, vec_capacity, ◌≤◌};
     ghost use Rattle.pipe_base.specs.Limits.{most_unsettled};
-    ghost use Rattle.pipe_relsend.specs.Preparation.{Preparation};
+    ghost use Rattle.pipe_relsend.specs.Pending.{Pending};
 
-    ghost Value = { List Preparation };
+    ghost Value = { List Pending };
 
     ghost view = { λ s. s.pending.items };
 
@@ -49,8 +54,8 @@ impl Drop for Sender {
             alloc: _,
             mut pending,
         } = self;
-        while let Some(preparing) = pending.pop() {
-            preparing.end();
+        while let Some(unsettled) = pending.pop() {
+            unsettled.end();
         }
         pending.destroy_empty();
     }
@@ -81,26 +86,44 @@ impl Sender {
         if self.pending.len() >= UNSETTLED_LIMIT {
             return Err(Window { dests });
         }
-        self.pending.push_reserved(Preparing::start(ts, dests));
+        let preparing = Preparing::start(ts, dests);
+        self.pending.push_reserved(Unsettled::begun(preparing));
         Ok(())
     }
 
     /// Takes back the scattering that was begun last: the way back from a `begin` for a step that is refused. Takes no memory.
     pub fn unbegin(&mut self)
-        ensures undoes { (before : List Preparation) (last : Preparation) → self.old ≡ before ++ last ∷ [] → self.new ≡ before }
+        ensures undoes { (before : List Pending) (last : Pending) → self.old ≡ before ++ last ∷ [] → self.new ≡ before }
         ensures stands { (calls : List SenderCall) (s : Scattering) → Stands (Began s ∷ calls) self.old → 0 < length s.dests → Stands calls self.new }
     {
-        if let Some(preparing) = self.pending.pop() {
-            preparing.end();
+        if let Some(unsettled) = self.pending.pop() {
+            unsettled.end();
         }
     }
 
-    /// A host has acknowledged the scattering with this timestamp. Takes no memory.
+    /// A host has acknowledged the scattering with this timestamp, which counts where that is not recalled. Takes no memory.
     pub fn ack(&mut self, ts: Ts, host: HostId)
         ensures value { self.new ≡ after_ack ts.0 host.0 self.old }
         ensures stands { (calls : List SenderCall) → Stands calls self.old → Stands (Acked ts.0 host.0 ∷ calls) self.new }
     {
-        ack_among(&mut self.pending, ts, host);
+        answer_among(&mut self.pending, Answer::Ack, ts, host);
+    }
+
+    /// A host has told that it took the scattering with this timestamp back, which counts where that is recalled. Takes no memory.
+    pub fn recall_ack(&mut self, ts: Ts, host: HostId)
+        ensures value { self.new ≡ after_recall_ack ts.0 host.0 self.old }
+        ensures stands { (calls : List SenderCall) → Stands calls self.old → Stands (RecallAcked ts.0 host.0 ∷ calls) self.new }
+    {
+        answer_among(&mut self.pending, Answer::RecallAck, ts, host);
+    }
+
+    /// These are all failed hosts that are noted now: each scattering that one of them has not acknowledged is taken back, and no
+    /// recalled one waits for them. Takes no memory.
+    pub fn note(&mut self, failed: &Noted)
+        ensures value { self.new ≡ noted failed.now self.old }
+        ensures stands { (calls : List SenderCall) → Stands calls self.old → KnowsAll failed.now calls → Stands (HasNoted failed.now ∷ calls) self.new }
+    {
+        note_among(&mut self.pending, failed);
     }
 
     /// The least timestamp of a scattering that is not settled, or `next` where there is none. So with a stamp for `next` it is
@@ -119,7 +142,23 @@ impl Sender {
         ensures value { result.0 ≡ first_or next.0 (after_ack ts.0 host.0 self.now) }
         ensures stands { (calls : List SenderCall) → Stands calls self.now → result.0 ≡ promise_of next.0 (Acked ts.0 host.0 ∷ calls) }
     {
-        first_ts_after(self.pending.as_slice(), ts, host, next)
+        first_ts_after(self.pending.as_slice(), Answer::Ack, ts, host, next)
+    }
+
+    /// The promise after a host told that it took a scattering back, which is not taken over yet. Takes no memory.
+    pub fn promise_after_recall_ack(&self, ts: Ts, host: HostId, next: Ts) -> Ts
+        ensures value { result.0 ≡ first_or next.0 (after_recall_ack ts.0 host.0 self.now) }
+        ensures stands { (calls : List SenderCall) → Stands calls self.now → result.0 ≡ promise_of next.0 (RecallAcked ts.0 host.0 ∷ calls) }
+    {
+        first_ts_after(self.pending.as_slice(), Answer::RecallAck, ts, host, next)
+    }
+
+    /// Whether some scattering is recalled and waits for a receiver.
+    pub fn is_recalling(&self) -> bool
+        ensures value { result ≡ list_any (λ p. p.recalled) self.now }
+        ensures stands { (calls : List SenderCall) → Stands calls self.now → result ≡ list_any (λ s. is_recalled calls s) (unsettled calls) }
+    {
+        any_recalled(self.pending.as_slice())
     }
 
     /// How many scatterings are not settled.
@@ -131,8 +170,8 @@ impl Sender {
         self.pending.len() as u16
     }
 
-    /// Puts the messages again for which an acknowledgement is missing, with the host's next timestamp and promise. Nothing
-    /// changes here.
+    /// Puts again the messages, and the recalls of those taken back, for which an answer is missing, with the host's next
+    /// timestamp and promise. Nothing changes here.
     pub fn resends<R: Router>(
         &self,
         src: HostId,
@@ -141,13 +180,19 @@ impl Sender {
         step: &mut Step,
     ) -> Result<(), NoMemory>
         requires room { step.old.unrouted < 2 ^ 32 - 256 }
-        ensures ok { OnOk result (step.new ≡ with_ways (picked (R.links routes.now)) (flat_map (prepares src (record { be = next.0; commit = first_or next.0 self.now })) self.now) step.old) }
+        ensures ok { OnOk result (step.new ≡ with_ways (picked (R.links routes.now)) (flat_map (owed src (record { be = next.0; commit = first_or next.0 self.now })) self.now) step.old) }
         ensures stands { OnOk result ((calls : List SenderCall) → Stands calls self.now
             → step.new ≡ with_ways (picked (R.links routes.now)) (resends calls src (record { be = next.0; commit = promise_of next.0 calls })) step.old) }
         ensures err { OnErr result (PutsAlone step.old step.new) }
     {
         let commit = self.promise(next);
-        resend_all(self.pending.as_slice(), src, next, commit, routes, step)
+        let origin = Origin {
+            alloc: self.alloc,
+            src,
+            be: next,
+            commit,
+        };
+        resend_all(self.pending.as_slice(), origin, routes, step)
     }
 
     pub fn try_clone(&self) -> Result<Sender, NoMemory>
@@ -160,7 +205,7 @@ impl Sender {
 }
 
 /// The first place of a scattering with this timestamp.
-fn place_of(pending: &[Preparing], ts: Ts) -> Option<usize>
+fn place_of(pending: &[Unsettled], ts: Ts) -> Option<usize>
     ensures { MatchOption result (All (λ p. p.ts.0 ≢ ts.0) pending.now) (IsPlaceOf ts.0 pending.now) }
 {
     for at in 0..pending.len() {
@@ -171,7 +216,13 @@ fn place_of(pending: &[Preparing], ts: Ts) -> Option<usize>
     None
 }
 
-fn first_ts(pending: &[Preparing], next: Ts) -> Ts
+fn any_recalled(pending: &[Unsettled]) -> bool
+    ensures { result ≡ list_any (λ p. p.recalled) pending.now }
+{
+    pending.iter().any(|unsettled| unsettled.is_recalled())
+}
+
+fn first_ts(pending: &[Unsettled], next: Ts) -> Ts
     ensures { result.0 ≡ first_or next.0 pending.now }
 {
     match pending.first() {
@@ -180,76 +231,94 @@ fn first_ts(pending: &[Preparing], next: Ts) -> Ts
     }
 }
 
-/// The first timestamp after an acknowledgement.
-fn first_ts_after(pending: &[Preparing], ts: Ts, host: HostId, next: Ts) -> Ts
-    ensures { result.0 ≡ first_or next.0 (after_ack ts.0 host.0 pending.now) }
+/// The first timestamp after an answer.
+fn first_ts_after(pending: &[Unsettled], answer: Answer, ts: Ts, host: HostId, next: Ts) -> Ts
+    ensures { result.0 ≡ first_or next.0 (answered answer ts.0 host.0 pending.now) }
 {
     let Some((first, rest)) = pending.split_first() else {
         return next;
     };
-    if first.ts().0 == ts.0 && !first.stays(host) {
+    if first.ts().0 == ts.0 && !first.stays(answer, host) {
         first_ts(rest, next)
     } else {
         first.ts()
     }
 }
 
-/// An acknowledgement: the scattering stays at its place, or is settled.
-fn ack_among(pending: &mut Vec<Preparing>, ts: Ts, host: HostId)
-    ensures items { pending.new.items ≡ after_ack ts.0 host.0 pending.old.items }
+/// An answer: the scattering stays at its place, or is settled.
+fn answer_among(pending: &mut Vec<Unsettled>, answer: Answer, ts: Ts, host: HostId)
+    ensures items { pending.new.items ≡ answered answer ts.0 host.0 pending.old.items }
     ensures fewer { vec_len pending.new ≤ vec_len pending.old }
     ensures capacity { vec_capacity pending.new ≡ vec_capacity pending.old }
 {
     let Some(at) = place_of(pending.as_slice(), ts) else {
         return;
     };
-    let preparing = pending.remove(at);
-    match preparing.ack(host) {
-        AckStep::Still(preparing) => put_back(pending, at, preparing),
-        AckStep::Ready(prepared) => prepared.spend(),
+    let unsettled = pending.remove(at);
+    match unsettled.answer(answer, host) {
+        Some(unsettled) => put_back(pending, at, unsettled),
+        None => {}
+    }
+}
+
+/// Failed hosts are noted: each scattering stays at its place, or is settled.
+fn note_among(pending: &mut Vec<Unsettled>, failed: &Noted)
+    ensures items { pending.new.items ≡ noted failed.now pending.old.items }
+    ensures fewer { vec_len pending.new ≤ vec_len pending.old }
+    ensures capacity { vec_capacity pending.new ≡ vec_capacity pending.old }
+{
+    let mut at = 0;
+    'places: while at < pending.len() {
+        let unsettled = pending.remove(at);
+        match unsettled.note(failed) {
+            Some(unsettled) => {
+                put_back(pending, at, unsettled);
+                at += 1;
+            }
+            None => {}
+        }
     }
 }
 
 fn resend_all<R: Router>(
-    pending: &[Preparing],
-    src: HostId,
-    next: Ts,
-    commit: Ts,
+    pending: &[Unsettled],
+    origin: Origin,
     routes: &R,
     step: &mut Step,
 ) -> Result<(), NoMemory>
     requires few { length pending.now ≤ most_unsettled }
     requires room { step.old.unrouted < 2 ^ 32 - 256 }
-    ensures ok { OnOk result (step.new ≡ with_ways (picked (R.links routes.now)) (flat_map (prepares src (record { be = next.0; commit = commit.0 })) pending.now) step.old) }
+    ensures ok { OnOk result (step.new ≡ with_ways (picked (R.links routes.now)) (flat_map (owed origin.src (fields_of origin)) pending.now) step.old) }
     ensures err { OnErr result (PutsAlone step.old step.new) }
 {
-    for preparing in pending {
-        preparing.resend(src, next, commit, routes, step)?;
+    for unsettled in pending {
+        unsettled.resend(origin, routes, step)?;
     }
     Ok(())
 }
 
 /// Puts a scattering back to its place. There is room, as it was there before.
-fn put_back(pending: &mut Vec<Preparing>, at: usize, preparing: Preparing)
+fn put_back(pending: &mut Vec<Unsettled>, at: usize, unsettled: Unsettled)
     requires place { at ≤ vec_len pending.old }
     requires room { vec_len pending.old < vec_capacity pending.old }
-    ensures items { pending.new.items ≡ insert pending.old.items at preparing }
+    ensures items { pending.new.items ≡ insert pending.old.items at unsettled }
+    ensures more { vec_len pending.new ≡ vec_len pending.old + 1 }
     ensures capacity { vec_capacity pending.new ≡ vec_capacity pending.old }
 {
-    match pending.insert(at, preparing) {
+    match pending.insert(at, unsettled) {
         Ok(()) => (),
         Err(AllocFailed { value }) => value.end(),
     }
 }
 
-fn copy_all(pending: &[Preparing], copy: &mut Vec<Preparing>) -> Result<(), NoMemory>
+fn copy_all(pending: &[Unsettled], copy: &mut Vec<Unsettled>) -> Result<(), NoMemory>
     requires room { vec_len copy.old + length pending.now ≤ vec_capacity copy.old }
     ensures ok { OnOk result (copy.new.items ≡ copy.old.items ++ pending.now) }
     ensures most { vec_len copy.new ≤ vec_len copy.old + length pending.now }
     ensures capacity { vec_capacity copy.new ≡ vec_capacity copy.old }
 {
-    for preparing in pending {
-        copy.push_reserved(preparing.try_clone()?);
+    for unsettled in pending {
+        copy.push_reserved(unsettled.try_clone()?);
     }
     Ok(())
 }

@@ -1,2 +1,3 @@
+pub mod TombstoneLaws
 pub mod VoidLaws
 pub mod Walks

@@ -40,7 +40,7 @@ filter_strict p q (x ∷ xs) strict = strict_by p q x xs (filter_strict p q xs s
 
 -- ---- a test of keys
 
-same_from_key : (a b : Key) → same_key a b ≡ true → a ≡ b
+pub same_from_key : (a b : Key) → same_key a b ≡ true → a ≡ b
 same_from_key a b is =
     let parts = and_parts (a.ts.0 == b.ts.0) (a.src.0 == b.src.0) is in
     same_numbers a b (eqb-true a.ts.0 b.ts.0 parts.0) (eqb-true a.src.0 b.src.0 parts.1)

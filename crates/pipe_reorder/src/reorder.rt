@@ -1,10 +1,11 @@
 // The held messages of one service.
-ghost use Rattle.std.specs.Prelude.{◌≡◌, ◌++◌, ◌∷◌, [], ℕ, List, length, false, IfOk, OnOk, OnErr};
+ghost use Rattle.std.specs.Prelude.{◌≡◌, ◌++◌, ◌∷◌, [], ℕ, List, None, length, false, IfOk, OnOk, OnErr};
 ghost use Rattle.pipe_base.specs.declared.control.Announced.{Announced as AAnnounced};
 ghost use Rattle.pipe_base.specs.Failed.{is_void, past_known, time_of, without_void};
 ghost use Rattle.pipe_base.specs.Fate.{fate_among, fate_of};
-ghost use Rattle.pipe_base.specs.Messages.{IsInOrder, has_key, from_barrier, below_barrier, logged_of, AreBelow};
+ghost use Rattle.pipe_base.specs.Messages.{IsInOrder, has_key, from_barrier, AreBelow};
 ghost use Rattle.pipe_reorder.specs.Buffer.{Buffer, adopted, empty_buffer, buffer_with, buffer_without, passed_by, left_by};
+ghost use Rattle.pipe_reorder.specs.Buffer.{but_newest, has_tombstone, keys_from, let_out, with_buried, with_no_buried, with_recalled, with_unburied};
 ghost use Rattle.pipe_reorder.specs.Buffer.{message_key, with_failed, with_no_void, with_placed, AppendsSome};
 
 use pipe_base::{
@@ -12,16 +13,19 @@ use pipe_base::{
     Service, Ts,
 };
 use std::alloc::Global;
-use std::collections::BTreeMap;
+use std::collections::{BTreeMap, BTreeSet};
 use std::marker::Model;
 
-/// The messages of a service that a host holds in the total order, the barrier that passed last, and the failed hosts whose
-/// messages are void from their times on. Void messages are never logged.
+/// The messages of a service that a host holds in the total order, the barrier that passed last, the failed hosts whose
+/// messages are void from their times on, and a tombstone for each message that its sender took back and that the barrier has
+/// not passed. Void messages and those with a tombstone are never logged.
 #[derive(Clone, Debug, Drop)]
 pub struct Reorder {
     service: Service,
     barrier: Ts,
     failed: Noted,
+    tombstones: BTreeSet<Key>,
+    newest: Option<Key>,
     held: BTreeMap<Key, Body>,
 }
 
@@ -31,13 +35,13 @@ impl Model for Reorder {
 
     ghost Value = { Buffer };
 
-    ghost view = { λ r. buffer_of r.service r.barrier r.failed r.held.entries };
+    ghost view = { λ r. buffer_of r.service r.barrier r.failed r.tombstones.keys r.newest r.held.entries };
 
     ghost invariant = { λ r. IsInOrder r.held.entries };
 }
 
 impl Reorder {
-    /// A buffer that holds nothing, and knows of no failed host. Takes no memory.
+    /// A buffer that holds nothing, and knows of no failed host and of no message taken back. Takes no memory.
     pub fn new(alloc: Global, service: Service) -> Reorder
         ensures { result ≡ empty_buffer service }
     {
@@ -45,6 +49,8 @@ impl Reorder {
             service,
             barrier: Ts(0),
             failed: Noted::new(alloc),
+            tombstones: BTreeSet::new(alloc),
+            newest: None,
             held: BTreeMap::new(alloc),
         }
     }
@@ -132,9 +138,76 @@ impl Reorder {
         drop_void(&mut self.held, &self.failed);
     }
 
+    /// Whether the key has a tombstone.
+    pub fn is_recalled(&self, key: Key) -> bool
+        ensures { result ≡ has_tombstone self.now.tombstones key }
+    {
+        has_tombstone(&self.tombstones, key)
+    }
+
+    /// The sender has taken the message with this key back: it is held no more, and its key has a tombstone, where the barrier
+    /// has not passed it.
+    pub fn recall(&mut self, key: Key) -> Result<(), NoMemory>
+        ensures ok { OnOk result (self.new ≡ with_recalled key self.old) }
+        ensures err { OnErr result (self.new ≡ self.old) }
+    {
+        self.bury(key)?;
+        let _ = self.held.remove(&key);
+        self.newest = None;
+        Ok(())
+    }
+
+    /// Gives the key a tombstone, where it has none and the barrier has not passed it: the newest then. Otherwise none is the
+    /// newest. The message is held until `drop_buried`.
+    pub fn bury(&mut self, key: Key) -> Result<(), NoMemory>
+        ensures ok { OnOk result (self.new ≡ with_buried key self.old) }
+        ensures err { OnErr result (self.new ≡ self.old) }
+    {
+        if key.ts.0 < self.barrier.0 || self.is_recalled(key) {
+            self.newest = None;
+            return Ok(());
+        }
+        let _ = self.tombstones.insert(key)?;
+        self.newest = Some(key);
+        Ok(())
+    }
+
+    /// The tombstone that is the newest.
+    pub fn newest(&self) -> Option<Key>
+        ensures { result ≡ self.now.newest }
+    {
+        self.newest
+    }
+
+    /// From now on no tombstone is the newest.
+    pub fn settle(&mut self)
+        ensures { self.new ≡ record self.old { newest = None } }
+    {
+        self.newest = None;
+    }
+
+    /// Takes the newest tombstone away: the way back from a `bury`, with the one that was the newest before. Takes no memory.
+    pub fn unbury(&mut self, before: Option<Key>)
+        ensures removes { self.new ≡ with_unburied before self.old }
+        ensures undoes { (buffer : Buffer) (key : Key) → before ≡ buffer.newest → self.old ≡ with_buried key buffer → self.new ≡ buffer }
+    {
+        remove_newest(&mut self.tombstones, self.newest);
+        self.newest = before;
+    }
+
+    /// Holds the message no more whose tombstone is the newest. Takes no memory.
+    pub fn drop_buried(&mut self)
+        ensures { self.new ≡ with_no_buried self.old }
+    {
+        if let Some(key) = self.newest {
+            let _ = self.held.remove(&key);
+            self.newest = None;
+        }
+    }
+
     /// What becomes of a message of this service with this key that comes now.
     pub fn fate(&self, key: Key) -> Fate
-        ensures { result ≡ fate_of self.now.barrier (time_of key.src.0 self.now.failed) self.now.messages key }
+        ensures { result ≡ fate_of self.now.barrier (time_of key.src.0 self.now.failed) (has_tombstone self.now.tombstones key) self.now.messages key }
     {
         if key.ts.0 < self.barrier.0 {
             return Fate::Late {
@@ -149,9 +222,11 @@ impl Reorder {
 
     /// What becomes of a message with this key that is neither late nor void.
     fn fate_among(&self, key: Key) -> Fate
-        ensures { result ≡ fate_among self.now.messages key }
+        ensures { result ≡ fate_among (has_tombstone self.now.tombstones key) self.now.messages key }
     {
-        if self.holds(key) {
+        if self.is_recalled(key) {
+            Fate::Recalled
+        } else if self.holds(key) {
             Fate::Repeat
         } else {
             Fate::Held
@@ -160,7 +235,8 @@ impl Reorder {
 
     /// Gives a message of this service its fate, and holds it where that is `Held`.
     pub fn place(&mut self, message: Message) -> Result<Fate, NoMemory>
-        ensures fate { IfOk result (λ fate. fate ≡ fate_of self.old.barrier (time_of message.src.0 self.old.failed) self.old.messages (message_key message)) }
+        ensures fate { IfOk result (λ fate. fate ≡ fate_of self.old.barrier (time_of message.src.0 self.old.failed)
+            (has_tombstone self.old.tombstones (message_key message)) self.old.messages (message_key message)) }
         ensures held { IfOk result (λ fate. self.new ≡ with_placed fate (message_key message) message.body self.old) }
         ensures err { OnErr result (self.new ≡ self.old) }
     {
@@ -175,21 +251,29 @@ impl Reorder {
         Ok(fate)
     }
 
-    /// Appends the held messages below the barrier that are not void, in the total order. After `NoMemory` some first ones of
-    /// them were appended.
+    /// Appends the held messages below the barrier that are not void and have no tombstone, in the total order. After `NoMemory`
+    /// some first ones of them were appended.
     pub fn copy_passed(&self, barrier: Ts, out: &mut LoggedList) -> Result<(), NoMemory>
         ensures ok { OnOk result (out.new ≡ out.old ++ passed_by barrier.0 self.now) }
         ensures early { OnOk result (AreBelow barrier.0 out.old → AreBelow barrier.0 out.new) }
         ensures err { OnErr result (AppendsSome out.old (passed_by barrier.0 self.now) out.new) }
     {
-        copy_below(&self.held, &self.failed, self.service, barrier, out)
+        copy_below(
+            &self.held,
+            &self.failed,
+            &self.tombstones,
+            self.service,
+            barrier,
+            out,
+        )
     }
 
-    /// Holds the messages below the barrier no more. Takes no memory.
+    /// Holds the messages below the barrier no more, and keeps no tombstone below it. Takes no memory.
     pub fn drop_passed(&mut self, barrier: Ts)
         ensures { self.new ≡ left_by barrier.0 self.old }
     {
         drop_below(&mut self.held, barrier);
+        drop_keys_below(&mut self.tombstones, barrier);
         self.barrier = barrier;
     }
 
@@ -199,8 +283,8 @@ impl Reorder {
         Ok(self.clone()?)
     }
 
-    /// Moves the messages below the barrier to the end of the log, but those that are void: these go. After `NoMemory` all are
-    /// still held, and copies of some first ones were appended.
+    /// Moves the messages below the barrier to the end of the log, but those that are void or have a tombstone: these go. After
+    /// `NoMemory` all are still held, and copies of some first ones were appended.
     pub fn pass(&mut self, barrier: Ts, out: &mut LoggedList) -> Result<(), NoMemory>
         ensures logged { OnOk result (out.new ≡ out.old ++ passed_by barrier.0 self.old) }
         ensures left { OnOk result (self.new ≡ left_by barrier.0 self.old) }
@@ -216,26 +300,32 @@ impl Reorder {
 fn copy_below(
     held: &BTreeMap<Key, Body>,
     failed: &Noted,
+    tombstones: &BTreeSet<Key>,
     service: Service,
     barrier: Ts,
     out: &mut LoggedList,
 ) -> Result<(), NoMemory>
-    ensures ok { let passed = logged_of service (without_void failed.now (below_barrier barrier.0 held.now.entries)) in
-        OnOk result (out.new ≡ out.old ++ passed) }
-    ensures err { let passed = logged_of service (without_void failed.now (below_barrier barrier.0 held.now.entries)) in
-        OnErr result (AppendsSome out.old passed out.new) }
+    ensures ok { OnOk result (out.new ≡ out.old ++ let_out service failed.now tombstones.now.keys barrier.0 held.now.entries) }
+    ensures err { OnErr result (AppendsSome out.old (let_out service failed.now tombstones.now.keys barrier.0 held.now.entries) out.new) }
 {
     'entries: for (key, body) in held {
         if key.ts.0 >= barrier.0 {
             break;
         }
-        if is_void(failed, *key) {
+        if is_void(failed, *key) || has_tombstone(tombstones, *key) {
             continue;
         }
         let body = body.try_clone()?;
         add(out, (service, Entry { key: *key, body }))?;
     }
     Ok(())
+}
+
+// Whether the key has a tombstone.
+fn has_tombstone(tombstones: &BTreeSet<Key>, key: Key) -> bool
+    ensures { result ≡ has_tombstone tombstones.now.keys key }
+{
+    tombstones.contains(&key)
 }
 
 // Whether the message with this key is void.
@@ -268,6 +358,25 @@ fn drop_below(held: &mut BTreeMap<Key, Body>, barrier: Ts)
             return;
         }
         let _ = held.pop_first();
+    }
+}
+
+fn remove_newest(tombstones: &mut BTreeSet<Key>, newest: Option<Key>)
+    ensures { tombstones.new.keys ≡ but_newest newest tombstones.old.keys }
+{
+    if let Some(key) = newest {
+        let _ = tombstones.remove(&key);
+    }
+}
+
+fn drop_keys_below(keys: &mut BTreeSet<Key>, barrier: Ts)
+    ensures { keys.new.keys ≡ keys_from barrier.0 keys.old.keys }
+{
+    'keys: while let Some(key) = keys.first() {
+        if barrier.0 <= key.ts.0 {
+            return;
+        }
+        let _ = keys.pop_first();
     }
 }
 

@@ -1,8 +1,10 @@
 -- That the steps of a half are what it owes.
-use Rattle.std.proofs.Common.{◌≡◌, ℕ, ◌&&◌, if◌then◌else◌, Bool, true, false, List, [], ◌∷◌, ◌++◌, map, filter, Option, None, Some, refl, sym, subst, ap, ◌∙◌, append-nil, zero-add}
+use Rattle.std.proofs.Common.{◌≡◌, ℕ, ◌&&◌, nat_lt, length, if◌then◌else◌, Bool, true, false, List, [], ◌∷◌, ◌++◌, map, filter, Option, None, Some, refl, sym, subst, ap, ap₂, ◌∙◌, append-nil, zero-add}
 use Rattle.pipe_base.specs.declared.control.Addressed.{Addressed}
 use Rattle.pipe_base.specs.declared.control.Announced.{Announced}
 use Rattle.pipe_base.specs.declared.control.Control.{Control}
+use Rattle.pipe_base.specs.declared.control.Control.TheVariants.{Gone}
+use Rattle.pipe_base.specs.declared.control.To.TheVariants.{Controller}
 use Rattle.pipe_base.specs.declared.name.LinkId.{LinkId}
 use Rattle.pipe_base.specs.declared.name.NodeId.{NodeId}
 use Rattle.pipe_base.specs.declared.name.Ts.{Ts}
@@ -21,16 +23,19 @@ use Rattle.pipe_base.specs.Step.{quiet_step}
 use Rattle.pipe_base.specs.Ways.{lost, routed, with_beacons, with_ways}
 use Rattle.pipe_barrier.specs.declared.registers.Barriers.{Barriers}
 use Rattle.pipe_barrier.specs.Registers.{AreBarriers, downs}
+use Rattle.pipe_links.proofs.Follows.{ready}
 use Rattle.pipe_links.proofs.Tells.{tells_marks}
 use Rattle.pipe_model.specs.declared.record.Record.{Record}
-use Rattle.pipe_model.specs.Duties.{beacons, fields, owed_by_half, owed_by_host, owed_by_take, owed_by_tick}
+use Rattle.pipe_links.specs.Ways.{outs_left}
+use Rattle.pipe_model.specs.Duties.{beacons, done_told, downs_told, fields, gone_told, owed_by_half, owed_by_host, owed_by_take, owed_by_tick}
 use Rattle.pipe_model.specs.Got.{gets}
-use Rattle.pipe_model.specs.Marks.{newly_noted, noted_by, told_marks}
+use Rattle.pipe_model.specs.Marks.{newly_noted, noted_by, told_drops, told_marks}
 use Rattle.pipe_model.specs.Moments.{barrier_at, known_drops, moments_of, noted_hosts, quiet_calls, received}
 use Rattle.pipe_model.specs.Run.{IsNodeHistory, IsNodeStep}
 use Rattle.pipe_model.specs.Sender.{sender_calls}
-use Rattle.pipe_model.proofs.Steps.{no_drop, no_fate, no_host, no_log, taken_ignored, taken_received}
-use Rattle.pipe_switch.specs.Half.{passed_on, taken, ticked, told}
+use Rattle.pipe_model.proofs.Steps.{no_fate, no_host, no_log, taken_ignored, taken_received}
+use Rattle.pipe_switch.specs.declared.half.Half.{Half}
+use Rattle.pipe_switch.specs.Half.{Stands, Works, passed_on, taken, ticked, told}
 
 -- whether the link is up, from what the walk over the in-links tells
 pub up_from : (told known up : Bool) → told ≡ (known && up) → known ≡ true → up ≡ told
@@ -95,9 +100,9 @@ ignores graph node own link p place keep half down =
 
 -- a packet that is received and goes on
 pub passes : (graph : Graph) (node : ℕ) (own : List Record) (link : LinkId) (p : Packet) (place : ℕ) (keep : Bool) (b : Barriers) (step : Step) → is_half graph node ≡ true
-    → known_drops own ≡ [] → is_up (moments_of own) link.0 ≡ true → AreBarriers (ins_of graph node) (Received link.0 p.be.0 p.commit.0 ∷ moments_of own) b
-    → step ≡ with_ways (route graph [] node) (passed_on b p) (quiet_step Ok) → IsNodeStep graph node own (taken link p place keep step)
-passes graph node own link p place keep b step half drops up are step_is =
+    → is_up (moments_of own) link.0 ≡ true → AreBarriers (ins_of graph node) (Received link.0 p.be.0 p.commit.0 ∷ moments_of own) b
+    → step ≡ with_ways (route graph (known_drops own) node) (passed_on b p) (quiet_step Ok) → IsNodeStep graph node own (taken link p place keep step)
+passes graph node own link p place keep b step half up are step_is =
     let s : Step = with_ways (route graph [] node) (passed_on b p) (quiet_step Ok) in
     let r : Record = taken link p place keep s in
     let f : Fields = record { be = b.be.0; commit = b.commit.0 } in
@@ -105,7 +110,7 @@ passes graph node own link p place keep b step half drops up are step_is =
     let moments_are : moments_of (r ∷ own) ≡ Received link.0 p.be.0 p.commit.0 ∷ moments_of own =
     ap (λ (o : Option (ℕ × Packet)). with_received true o (moments_of own)) got in
     let fields_is : fields graph node own r ≡ f = fields_are graph node own r (Received link.0 p.be.0 p.commit.0 ∷ moments_of own) b half moments_are are in
-    let drops_now : known_drops (r ∷ own) ≡ [] = ap (λ (ls : List LinkId). ls ++ []) drops in
+    let drops_now : known_drops (r ∷ own) ≡ known_drops own = append-nil (known_drops own) in
     let owes : owed_by_take graph node (fields graph node own r) own r ≡ passed_on b p =
     owed_at_half graph node own r (fields graph node own r) half ∙ ap (owed_by_half (fields graph node own r)) got ∙ ap (λ (g : Fields). owed_by_half g (Some (link.0, p))) fields_is in
     subst (λ (x : Step). IsNodeStep graph node own (taken link p place keep x)) (sym step_is)
@@ -120,27 +125,41 @@ passes graph node own link p place keep b step half drops up are step_is =
       put_is =
           sym (append-nil (routed (route graph (known_drops (r ∷ own)) node) (owed_by_take graph node (fields graph node own r) own r))
           ∙ ap (λ (ls : List LinkId). routed (route graph ls node) (owed_by_take graph node (fields graph node own r) own r)) drops_now
-          ∙ ap (routed (route graph [] node)) owes);
+          ∙ ap (routed (route graph (known_drops own) node)) owes);
       unrouted_is =
-          zero-add (lost (route graph [] node) (passed_on b p))
+          zero-add (lost (route graph (known_drops own) node) (passed_on b p))
           ∙ sym (ap (λ (ls : List LinkId). lost (route graph ls node) (owed_by_take graph node (fields graph node own r) own r)) drops_now
-          ∙ ap (lost (route graph [] node)) owes);
+          ∙ ap (lost (route graph (known_drops own) node)) owes);
       control_is = refl;
     })
 
+-- what is told of so many dropped links
+abbrev gone_of : ℕ → List LinkId → List Addressed
+gone_of node known = if nat_lt 0 (length known) then record { to = Controller; control = Gone (record { 0 = node }) (length known) } ∷ [] else []
+
+-- a half is never done
+done_none : (host more : Bool) (told : Addressed) → host ≡ false → (if host && more then told ∷ [] else []) ≡ []
+done_none true more told is = cc
+done_none false more told is = refl
+
 -- a tick
-pub ticks : (graph : Graph) (node : NodeId) (own : List Record) (now : Ts) (marks : List (LinkId × Ts)) (tells : List Addressed) (b : Barriers) (step : Step)
-    → is_half graph node.0 ≡ true → known_drops own ≡ [] → IsNodeHistory graph node.0 own
+pub ticks : (graph : Graph) (node : NodeId) (own : List Record) (now : Ts) (marks : List (LinkId × Ts)) (tells all : List Addressed) (b : Barriers) (step : Step)
+    → is_half graph node.0 ≡ true → IsNodeHistory graph node.0 own
     → marks ≡ silent_marks graph.patience (ins_of graph node.0) (moments_of own) (quiet_calls own) now.0
-    → tells ≡ downs (ins_of graph node.0) (with_downed marks (moments_of own)) → AreBarriers (ins_of graph node.0) (with_downed marks (moments_of own)) b
-    → step ≡ with_beacons (outs_of graph node.0) (record { be = b.be.0; commit = b.commit.0 }) (record (quiet_step Ok) { downed = marks; control = tells })
+    → tells ≡ downs (ins_of graph node.0) (with_downed marks (moments_of own)) → all ≡ tells ++ gone_told node.0 own
+    → AreBarriers (ins_of graph node.0) (with_downed marks (moments_of own)) b
+    → step ≡ with_beacons (outs_left graph node.0 (known_drops own)) (record { be = b.be.0; commit = b.commit.0 }) (record (quiet_step Ok) { downed = marks; control = all })
     → IsNodeStep graph node.0 own (ticked node now step)
-ticks graph node own now marks tells b step half drops history marks_are tells_are are step_is =
+ticks graph node own now marks tells all b step half history marks_are tells_are all_are are step_is =
     let f : Fields = record { be = b.be.0; commit = b.commit.0 } in
-    let s : Step = with_beacons (outs_of graph node.0) f (record (quiet_step Ok) { downed = marks; control = tells }) in
+    let s : Step = with_beacons (outs_left graph node.0 (known_drops own)) f (record (quiet_step Ok) { downed = marks; control = all }) in
     let r : Record = ticked node now s in
     let fields_is : fields graph node.0 own r ≡ f = fields_are graph node.0 own r (with_downed marks (moments_of own)) b half refl are in
-    let drops_now : known_drops (r ∷ own) ≡ [] = ap (λ (ls : List LinkId). ls ++ []) drops in
+    let drops_now : known_drops (r ∷ own) ≡ known_drops own = append-nil (known_drops own) in
+    let done : done_told graph node.0 (r ∷ own) ≡ [] = done_none (is_host graph node.0) _ _ (no_host graph node.0 half) in
+    let gone_too : downs_told graph node.0 (r ∷ own) ++ gone_told node.0 own ≡ downs_told graph node.0 (r ∷ own) ++ done_told graph node.0 (r ∷ own) ++ gone_told node.0 (r ∷ own) =
+    ap (λ (told : List Addressed). told ++ gone_told node.0 own) (sym (append-nil (downs_told graph node.0 (r ∷ own))))
+    ∙ ap₂ (λ (d : List Addressed) (known : List LinkId). downs_told graph node.0 (r ∷ own) ++ d ++ gone_of node.0 known) (sym done) (sym drops_now) in
     let nothing : owed_by_tick graph node.0 (fields graph node.0 own r) (sender_calls graph node.0 (r ∷ own)) ≡ [] =
     chosen {A = List Packet} (is_host graph node.0) (resends (sender_calls graph node.0 (r ∷ own)) (record { 0 = node.0 }) (fields graph node.0 own r)) [] (no_host graph node.0 half) in
     subst (λ (x : Step). IsNodeStep graph node.0 own (ticked node now x)) (sym step_is)
@@ -155,17 +174,18 @@ ticks graph node own now marks tells b step half drops history marks_are tells_a
       put_is =
           sym (ap (λ (ps : List Packet). routed (route graph (known_drops (r ∷ own)) node.0) ps ++ beacons graph node.0 own r) nothing
           ∙ ap (λ (g : Fields). map (λ (l : LinkId). (l, beacon g)) (filter (λ (l : LinkId). not_dropped (known_drops (r ∷ own)) l.0) (outs_of graph node.0))) fields_is
-          ∙ ap (λ (ls : List LinkId). map (λ (l : LinkId). (l, beacon f)) (filter (λ (l : LinkId). not_dropped ls l.0) (outs_of graph node.0))) drops_now
-          ∙ ap (map (λ (l : LinkId). (l, beacon f))) (no_drop (outs_of graph node.0)));
+          ∙ ap (λ (ls : List LinkId). map (λ (l : LinkId). (l, beacon f)) (filter (λ (l : LinkId). not_dropped ls l.0) (outs_of graph node.0))) drops_now);
       unrouted_is = ap (lost (route graph (known_drops (r ∷ own)) node.0)) (sym nothing);
-      control_is = tells_are ∙ tells_marks graph node.0 own r history marks_are;
+      control_is =
+          all_are ∙ ap (λ (told : List Addressed). told ++ gone_told node.0 own) (tells_are ∙ tells_marks graph node.0 own r history marks_are)
+          ∙ gone_too;
     })
 
 -- a control message
 pub obeys : (graph : Graph) (node : NodeId) (own : List Record) (control : Control) (place : ℕ) (keep : Bool) (step : Step) → is_half graph node.0 ≡ true
-    → step ≡ record (quiet_step Ok) { downed = told_marks (ins_of graph node.0) (moments_of own) control } → IsNodeStep graph node.0 own (told node control place keep step)
+    → step ≡ record (quiet_step Ok) { downed = told_marks (ins_of graph node.0) (moments_of own) control; dropped = told_drops (known_drops own) control } → IsNodeStep graph node.0 own (told node control place keep step)
 obeys graph node own control place keep step half step_is =
-    let s : Step = record (quiet_step Ok) { downed = told_marks (ins_of graph node.0) (moments_of own) control } in
+    let s : Step = record (quiet_step Ok) { downed = told_marks (ins_of graph node.0) (moments_of own) control; dropped = told_drops (known_drops own) control } in
     let r : Record = told node control place keep s in
     subst (λ (x : Step). IsNodeStep graph node.0 own (told node control place keep x)) (sym step_is)
     (record {
@@ -180,3 +200,11 @@ obeys graph node own control place keep step half step_is =
       unrouted_is = refl;
       control_is = refl;
     })
+
+-- A half that stands is ready for a packet that it takes: no link is dropped by that.
+pub works_taken : (graph : Graph) (node : ℕ) (own : List Record) (link : LinkId) (p : Packet) (place : ℕ) (keep : Bool) (step : Step) (k : Half) → Stands graph node own k
+    → IsNodeStep graph node own (taken link p place keep step) → Works graph node own (taken link p place keep step) k
+works_taken graph node own link p place keep step k stands rules = record {
+  rules = rules;
+  stands = record { half = stands.half; links_are = ready graph node own (taken link p place keep step) k.links stands.links_are rules refl };
+}

@@ -21,7 +21,7 @@ use Rattle.pipe_model.specs.declared.event.Event.TheVariants.{ControlTake, Take,
 use Rattle.pipe_model.specs.declared.record.Record.{Record}
 use Rattle.pipe_model.specs.declared.record.Took.TheVariants.{Nothing, Link, Message}
 use Rattle.pipe_model.specs.Got.{is_beacon}
-use Rattle.pipe_model.specs.Moments.{moments_of}
+use Rattle.pipe_model.specs.Moments.{known_drops, moments_of}
 use Rattle.pipe_model.specs.Run.{IsNodeStep}
 use Rattle.pipe_switch.specs.declared.half.Half.{Half}
 
@@ -29,6 +29,11 @@ use Rattle.pipe_switch.specs.declared.half.Half.{Half}
 pub record Stands (graph : Graph) (node : ℕ) (own : List Record) (k : Half) : Type 0 where
   pub half : is_half graph node ≡ true
   pub links_are : links.Stands graph node own k.links
+
+-- The same while a record is worked out: the ways after it are made already.
+pub record StandsWith (graph : Graph) (node : ℕ) (own : List Record) (r : Record) (k : Half) : Type 0 where
+  pub half : is_half graph node ≡ true
+  pub links_are : links.StandsWith graph node own r k.links
 
 -- a packet was taken from a link
 abbrev pub taken : LinkId → Packet → ℕ → Bool → Step → Record
@@ -52,9 +57,14 @@ pub record IsPassing (k : Half) (link : LinkId) (p : Packet) (step : Step) : Typ
   pub barriers_are : (graph : Graph) (node : ℕ) (own : List Record) → links.Stands graph node own k.links
       → AreBarriers (ins_of graph node) (Received link.0 p.be.0 p.commit.0 ∷ moments_of own) barriers
   pub step_is : (graph : Graph) (node : ℕ) (own : List Record) → links.Stands graph node own k.links
-      → step ≡ with_ways (route graph [] node) (passed_on barriers p) (quiet_step Ok)
+      → step ≡ with_ways (route graph (known_drops own) node) (passed_on barriers p) (quiet_step Ok)
 
 -- The step is what the rules say of the record, and afterwards the half stands for its records with that one.
 pub record Does (graph : Graph) (node : ℕ) (own : List Record) (r : Record) (new : Half) : Type 0 where
   pub rules : IsNodeStep graph node own r
   pub stands : Stands graph node (r ∷ own) new
+
+-- The step is what the rules say of the record, and the half is ready to follow it.
+pub record Works (graph : Graph) (node : ℕ) (own : List Record) (r : Record) (new : Half) : Type 0 where
+  pub rules : IsNodeStep graph node own r
+  pub stands : StandsWith graph node own r new

@@ -10,7 +10,7 @@ ghost use Rattle.pipe_model.specs.Acting.{ComesIn};
 ghost use Rattle.pipe_model.specs.Got.{is_beacon};
 ghost use Rattle.pipe_model.specs.Moments.{moments_of};
 ghost use Rattle.pipe_model.specs.Run.{IsNodeStep};
-ghost use Rattle.pipe_switch.specs.Half.{Does, IsPassing, Stands, taken, ticked, told};
+ghost use Rattle.pipe_switch.specs.Half.{Does, IsPassing, Stands, StandsWith, Works, taken, ticked, told};
 
 use pipe_barrier::{Barriers, Registers};
 use pipe_base::{
@@ -22,8 +22,12 @@ use pipe_model::{Event, Record, Took};
 use pipe_topo::Topology;
 use std::alloc::Global;
 
-/// A half of a switch: the registers of the links into it, and the ways out of it. Contracts speak of any records of its
-/// own for which it stands.
+/// A half of a switch: the registers of the links into it, and the ways out of it by the links that it does not know as
+/// dropped. Contracts speak of any records of its own for which it stands.
+///
+/// A step goes in two phases, for a caller that may still refuse it: `work_take`, `work_tick` or `work_control` works it out,
+/// and then either `follow` takes its record over or `undo` gives back what was made for it. `take`, `tick` and `control` are
+/// both phases in one call.
 #[derive(Clone, Drop)]
 pub struct Half {
     alloc: Global,
@@ -43,6 +47,13 @@ impl Half {
         })
     }
 
+    pub fn node(&self) -> NodeId
+        ensures value { result ≡ self.now.links.node }
+        ensures stands { (graph : Graph) (node : ℕ) (own : List ARecord) → Stands graph node own self.now → result.0 ≡ node }
+    {
+        self.links.node()
+    }
+
     /// The registers of the links into the half.
     pub fn registers(&self) -> &Registers
         ensures { (graph : Graph) (node : ℕ) (own : List ARecord) → Stands graph node own self.now
@@ -55,7 +66,7 @@ impl Half {
     /// not up is ignored; any other raises the registers, and goes on with the half's own barriers unless it is a beacon.
     pub fn work_take(&self, link: LinkId, packet: &Packet) -> Result<KeptStep, NoMemory>
         ensures { IfOk result (λ step. (graph : Graph) (node : ℕ) (own : List ARecord) (place : ℕ) (keep : Bool) → Stands graph node own self.now
-            → has_link link.0 (ins_of graph node) ≡ true → IsNodeStep graph node own (taken link packet.now place keep step)) }
+            → has_link link.0 (ins_of graph node) ≡ true → Works graph node own (taken link packet.now place keep step) self.now) }
     {
         if !self.links.is_up(link) {
             return Ok(KeptStep::quiet(Outcome::Ignored));
@@ -78,37 +89,57 @@ impl Half {
     }
 
     /// Works out what a tick does. Nothing changes. Links that were silent for the patience go down, and a beacon with the
-    /// barriers after that is put on each link out of the half. The controller is told of each in-link that is down then.
+    /// barriers after that is put on each link out of the half that is not known as dropped. The controller is told of each
+    /// in-link that is down then and not dropped, and how many dropped links the half knows.
     pub fn work_tick(&self, now: Ts) -> Result<KeptStep, NoMemory>
         ensures { IfOk result (λ step. (graph : Graph) (node : NodeId) (own : List ARecord) → Stands graph node.0 own self.now
-            → IsNodeStep graph node.0 own (ticked node now step)) }
+            → Works graph node.0 own (ticked node now step) self.now) }
     {
         let mut step = Step::new(self.alloc);
         step.downed = self.links.silent_marks(self.alloc, now)?;
         step.control = self.links.downs_with(self.alloc, &step.downed)?;
+        self.links.tell_gone(&mut step.control)?;
         let barriers = self.links.barriers_without(&step.downed)?;
         self.links
             .put_beacons(self.alloc, barriers.be, barriers.commit, &mut step)?;
         step.keep(self.alloc)
     }
 
-    /// Works out what a control message to the half does. Nothing changes. A freeze takes its link down, where that is an
-    /// in-link that is up; any other message does nothing yet.
-    pub fn work_control(&self, control: &Control) -> Result<KeptStep, NoMemory>
-        ensures { IfOk result (λ step. (graph : Graph) (node : NodeId) (own : List ARecord) (place : ℕ) (keep : Bool) → Stands graph node.0 own self.now
-            → IsNodeStep graph node.0 own (told node control.now place keep step)) }
+    /// Works out what a control message to the half does. A freeze takes its link down, where that is an in-link that is up.
+    /// Of dropped links the half comes to know those past the number of those known: for them the ways are made anew and set
+    /// aside, and nothing else changes. Any other message does nothing. For more than 65,535 known links there is no memory.
+    pub fn work_control(
+        &mut self,
+        topology: &Topology,
+        control: &Control,
+    ) -> Result<KeptStep, NoMemory>
+        requires node { self.old.links.node.0 < topology.now.nodes }
+        ensures ok { IfOk result (λ step. (node : NodeId) (own : List ARecord) (place : ℕ) (keep : Bool) → Stands topology.now node.0 own self.old
+            → Works topology.now node.0 own (told node control.now place keep step) self.new) }
+        ensures err { OnErr result (self.new ≡ self.old) }
     {
         let mut step = Step::new(self.alloc);
         step.downed = self.links.told_marks(self.alloc, control)?;
-        step.keep(self.alloc)
+        step.dropped = self.links.told_drops(self.alloc, control)?;
+        let ahead = self.links.ways_with(self.alloc, topology, &step.dropped)?;
+        let worked = step.keep(self.alloc)?;
+        self.links.prepare(ahead);
+        Ok(worked)
     }
 
-    /// Takes over a record of the half's own. Takes no memory.
+    /// Takes over the record of a step that was worked out. Takes no memory.
     pub fn follow(&mut self, made: &Record)
-        ensures { (graph : Graph) (node : ℕ) (own : List ARecord) → Stands graph node own self.old → ComesIn graph node made.now.event
+        ensures { (graph : Graph) (node : ℕ) (own : List ARecord) → StandsWith graph node own made.now self.old → ComesIn graph node made.now.event
             → IsNodeStep graph node own made.now → Stands graph node (made.now ∷ own) self.new }
     {
         self.links.follow(made);
+    }
+
+    /// Gives back what was made for a step that was worked out and is refused. Takes no memory.
+    pub fn undo(&mut self)
+        ensures { (graph : Graph) (node : ℕ) (own : List ARecord) (made : ARecord) → StandsWith graph node own made self.old → Stands graph node own self.new }
+    {
+        self.links.undo();
     }
 
     /// Takes a packet from a link into the half. The step is empty first, and after want of memory, which changes nothing.
@@ -152,14 +183,21 @@ impl Half {
         Ok(())
     }
 
-    /// Takes a control message to the half. The step is empty first, and after want of memory, which changes nothing.
-    pub fn control(&mut self, control: Control, step: &mut Step) -> Result<(), NoMemory>
-        ensures ok { OnOk result ((graph : Graph) (node : NodeId) (own : List ARecord) (place : ℕ) (keep : Bool) → Stands graph node.0 own self.old
-            → Does graph node.0 own (told node control place keep step.new) self.new) }
+    /// Takes a control message to the half, whose topology is at hand. The step is empty first, and after want of memory, which
+    /// changes nothing.
+    pub fn control(
+        &mut self,
+        topology: &Topology,
+        control: Control,
+        step: &mut Step,
+    ) -> Result<(), NoMemory>
+        requires node { self.old.links.node.0 < topology.now.nodes }
+        ensures ok { OnOk result ((node : NodeId) (own : List ARecord) (place : ℕ) (keep : Bool) → Stands topology.now node.0 own self.old
+            → Does topology.now node.0 own (told node control place keep step.new) self.new) }
         ensures err { OnErr result ((self.new ≡ self.old) × (step.new ≡ quiet_step Outcome.Ok)) }
     {
         *step = Step::new(self.alloc);
-        let worked = self.work_control(&control)?;
+        let worked = self.work_control(topology, &control)?;
         let record = Record {
             event: Event::ControlTake {
                 place: 0,

@@ -1,15 +1,16 @@
 -- A decision puts few messages, and its record is what the rules say.
-use Rattle.std.proofs.Common.{◌+◌, ◌≤◌, Bool, not, List, ◌∷◌, length, filter, reverse, refl, subst, sym, ap, ◌∙◌, arith, length-append}
+use Rattle.std.proofs.Common.{◌+◌, ◌≤◌, Bool, not, List, ◌∷◌, length, filter, reverse, refl, subst, sym, ap, ◌∙◌, arith, length-append, ◌++◌}
 use Rattle.std.proofs.lemmas.Bool.{false≢true}
 use Rattle.std.proofs.lemmas.List.{length-map}
 use Rattle.std.proofs.lemmas.List.Filters.{length-filter_both}
 use Rattle.std.proofs.lemmas.List.FromFn.{length-map-range_with_len}
 use Rattle.pipe_base.specs.declared.name.HostId.{HostId}
 use Rattle.pipe_base.specs.Graph.{Graph, all_links, link_id}
+use Rattle.pipe_base.specs.declared.name.NodeId.{NodeId}
 use Rattle.pipe_control.specs.declared.controller.Controller.{Controller}
 use Rattle.pipe_model.specs.declared.record.Record.{Record}
 use Rattle.pipe_model.specs.Controller.{view}
-use Rattle.pipe_model.specs.Decision.{all_hosts, freeze, freezes, host_id, is_behind, is_frozen, messages, notice, notices}
+use Rattle.pipe_model.specs.Decision.{all_hosts, freeze, freezes, host_id, is_behind, is_frozen, messages, notice, notices, all_nodes, drop_links, drops, lags, node_id}
 use Rattle.pipe_model.specs.Run.{IsStep}
 use Rattle.pipe_model.specs.View.{View}
 use Rattle.pipe_net.specs.Waits.{Waits}
@@ -21,11 +22,15 @@ use Rattle.pipe_world.proofs.WorldSteps.{history_push, kept_nodes}
 filter_few : {X : Type 0} (p : X → Bool) (xs : List X) → length (filter p xs) ≤ length xs
 filter_few p xs = omega (arith, length-filter_both p (λ x. not (p x)) (λ x. refl) xs)
 
-pub messages_few : (graph : Graph) (v : View) → length (messages graph v) ≤ length graph.links + graph.hosts
+pub messages_few : (graph : Graph) (v : View) → length (messages graph v) ≤ length graph.links + graph.hosts + graph.nodes
 messages_few graph v =
     omega (
       arith,
+      length-append (freezes graph v ++ notices graph v) (drops graph v),
       length-append (freezes graph v) (notices graph v),
+      length-map (filter (λ (n : NodeId). lags graph v n.0) (all_nodes graph)) (drop_links v),
+      filter_few (λ (n : NodeId). lags graph v n.0) (all_nodes graph),
+      length-map-range_with_len node_id 0 graph.nodes,
       length-map (filter (is_frozen graph v) (all_links graph)) (freeze graph),
       length-map (filter (λ (h : HostId). is_behind v h.0) (all_hosts graph)) (notice v),
       filter_few (is_frozen graph v) (all_links graph),

@@ -1,12 +1,15 @@
 -- What a node puts in a step: few items, on links of the graph.
-use Rattle.std.proofs.Common.{ℕ, zero, suc, ◌+◌, ◌*◌, ◌<◌, ◌≤◌, ◌==◌, ◌%◌, ◌&&◌, Bool, true, false, if◌then◌else◌, List, [], ◌∷◌, length, map, filter, Option, None, Some, sym, subst, ap, arith, length-append}
+use Rattle.std.proofs.Common.{ℕ, zero, suc, ◌+◌, ◌*◌, ◌<◌, ◌≤◌, ◌==◌, ◌%◌, ◌&&◌, Bool, true, false, if◌then◌else◌, List, [], ◌∷◌, length, map, filter, Option, None, Some, sym, subst, ap, arith, length-append, ◌++◌, not, nat_lt}
 use Rattle.std.specs.List.{All}
 use Rattle.std.specs.Prelude.{IfSome, flat_map, slice_get}
 use Rattle.std.proofs.lemmas.List.{length-map}
 use Rattle.std.proofs.lemmas.List.Elements.{All-nil, All-cons, All-append, All-filter, All-head, All-map, All-tail}
 use Rattle.std.proofs.lemmas.List.FromFn.{length-map-range_with_len}
 use Rattle.std.proofs.lemmas.List.Sums.{count_by-le-length, length-filter}
+use Rattle.pipe_base.specs.Settled.{is_recalling}
 use Rattle.pipe_base.specs.declared.control.Addressed.{Addressed}
+use Rattle.pipe_base.specs.declared.control.Control.TheVariants.{Done, Gone}
+use Rattle.pipe_base.specs.declared.control.To.TheVariants.{Controller}
 use Rattle.pipe_base.specs.declared.message.Service.{Service}
 use Rattle.pipe_base.specs.declared.message.Service.TheVariants.{Reliable}
 use Rattle.pipe_base.specs.declared.name.HostId.{HostId}
@@ -17,19 +20,20 @@ use Rattle.pipe_base.specs.declared.step.Fate.{Fate}
 use Rattle.pipe_base.specs.Fate.{is_holding}
 use Rattle.pipe_base.specs.Graph.{Graph, all_links, head_of, ins_of, is_host, link_id, outs_of, tail_of}
 use Rattle.pipe_base.specs.Limits.{most_receivers, most_unsettled}
-use Rattle.pipe_base.specs.Packets.{Fields, ack_to, beacon, forwarded, sent_to}
+use Rattle.pipe_base.specs.Packets.{Fields, ack_to, beacon, forwarded, sent_to, recall_ack_to}
 use Rattle.pipe_base.specs.Resends.{resends}
 use Rattle.pipe_base.specs.ShortestRoute.{begins_shortest, firsts_of, in_turn, not_dropped, route}
 use Rattle.pipe_base.specs.Ways.{on_way, routed}
+use Rattle.pipe_model.specs.Recalls.{is_recall}
 use Rattle.pipe_model.specs.declared.event.Event.{Event}
 use Rattle.pipe_model.specs.declared.event.Event.TheVariants.{Send, Tick, Take}
 use Rattle.pipe_model.specs.declared.record.Record.{Record}
-use Rattle.pipe_model.specs.Duties.{beacons, beacons_of, control_of, down_told, fields, owed, owed_by_half, owed_by_host, owed_by_send, owed_of}
+use Rattle.pipe_model.specs.Duties.{beacons, beacons_of, control_of, down_told, fields, owed, owed_by_half, owed_by_host, owed_by_send, owed_of, done_told, downs_told, gone_told}
 use Rattle.pipe_model.specs.Event.{IsOfGraph}
 use Rattle.pipe_model.specs.Got.{carries, gets, is_beacon}
 use Rattle.pipe_model.specs.Items.{items_in}
 use Rattle.pipe_model.specs.Marks.{mark}
-use Rattle.pipe_model.specs.Moments.{known_drops, received}
+use Rattle.pipe_model.specs.Moments.{known_drops, received, noted_hosts}
 use Rattle.pipe_model.specs.NeverLate.{AreOfGraph}
 use Rattle.pipe_model.specs.Run.{IsNodeHistory, IsNodeStep}
 use Rattle.pipe_model.specs.Sender.{sender_calls}
@@ -55,17 +59,19 @@ sent_few : (service : Service) (src : HostId) (f : Fields) (dests : List (HostId
 sent_few service src f dests None few = omega arith
 sent_few service src f dests (Some ts) few = omega (arith, length-map dests (sent_to service src ts f), few)
 
-one_few : (t : Bool) (p : Packet) → length (if t then p ∷ [] else []) ≤ most_resent
-one_few true p = omega arith
-one_few false p = omega arith
-
 none_or_one : (t : Bool) (p : Packet) → length (if t then [] else p ∷ []) ≤ most_resent
 none_or_one true p = omega arith
 none_or_one false p = omega arith
 
+answer_few : (held recalls : Bool) (p q : Packet) → length (if held then p ∷ [] else if recalls then q ∷ [] else []) ≤ most_resent
+answer_few true recalls p q = omega arith
+answer_few false true p q = omega arith
+answer_few false false p q = omega arith
+
 answered_few : (host : ℕ) (f : Fields) (fate : Option Fate) (got : Option Packet) → length (owed_by_host host f fate got) ≤ most_resent
 answered_few host f fate None = omega arith
-answered_few host f fate (Some p) = one_few (carries Reliable p.kind && is_holding fate) (ack_to (record { 0 = host }) f p)
+answered_few host f fate (Some p) =
+    answer_few (carries Reliable p.kind && is_holding fate) (is_recall p.kind) (ack_to (record { 0 = host }) f p) (recall_ack_to (record { 0 = host }) f p)
 
 forwarded_few : (f : Fields) (received : Option (ℕ × Packet)) → length (owed_by_half f received) ≤ most_resent
 forwarded_few f None = omega arith
@@ -113,12 +119,21 @@ flat_few : (f : LinkId → List Addressed) (ls : List LinkId) → ((l : LinkId) 
 flat_few f [] few = omega arith
 flat_few f (l ∷ ls) few = omega (arith, length-append (f l) (flat_map f ls), few l, flat_few f ls few)
 
--- at most a report for each link
-tells_few : (graph : Graph) (node : ℕ) (own : List Record) (event : Event) → length (control_of graph node own event) ≤ length graph.links
+count_few : (told : Bool) (m : Addressed) → length (if told then m ∷ [] else []) ≤ 1
+count_few true m = omega arith
+count_few false m = omega arith
+
+-- at most a report for each link, and two counts
+tells_few : (graph : Graph) (node : ℕ) (own : List Record) (event : Event) → length (control_of graph node own event) ≤ length graph.links + 2
 tells_few graph node own (Tick n now) =
     let ins : List LinkId = filter (λ (l : LinkId). not_dropped (known_drops own) l.0) (ins_of graph node) in
     omega (
       arith,
+      length-append (downs_told graph node own ++ done_told graph node own) (gone_told node own),
+      length-append (downs_told graph node own) (done_told graph node own),
+      count_few (is_host graph node && (nat_lt 0 (length (noted_hosts own)) && not (is_recalling (sender_calls graph node own))))
+          (record { to = Controller; control = Done (record { 0 = node }) (length (noted_hosts own)) }),
+      count_few (nat_lt 0 (length (known_drops own))) (record { to = Controller; control = Gone (record { 0 = node }) (length (known_drops own)) }),
       flat_few (λ (l : LinkId). down_told l (mark own l.0)) ins (λ l. told_few l (mark own l.0)),
       filter_few (λ (l : LinkId). not_dropped (known_drops own) l.0) (ins_of graph node),
       filter_few (λ (l : LinkId). head_of graph l.0 == node) (all_links graph),
@@ -128,7 +143,7 @@ tells_few graph node own _ = omega arith
 
 -- after records that are owed, of events of the network, a step puts few items
 pub items_few : (graph : Graph) (node : ℕ) (own : List Record) (r : Record) → IsNodeHistory graph node own → AreOfGraph graph own → IsOfGraph graph r.event
-    → IsNodeStep graph node own r → items_in r ≤ most_resent + length graph.links + length graph.links
+    → IsNodeStep graph node own r → items_in r ≤ most_resent + length graph.links + length graph.links + 2
 items_few graph node own r past known names step =
     let way : ℕ → ℕ → Option LinkId = route graph (known_drops (r ∷ own)) node in
     let f : Fields = fields graph node own r in

@@ -1,6 +1,7 @@
 pub mod Decision
 pub mod History
 pub mod Node
+pub mod OnTime
 pub mod Queues
 pub mod Turn
 pub mod World

@@ -22,10 +22,10 @@ abbrev pub Stands : Graph → ℕ → List Record → Node → Type 0
 Stands graph node own (Host h) = host.Stands graph node own h
 Stands graph node own (Half h) = half.Stands graph node own h
 
--- the same while a record is worked out: a host holds the message that it brought already, or has begun what it sends
+-- the same while a record is worked out: what the record brings, sends or makes known is held, begun or set aside already
 abbrev pub StandsWith : Graph → ℕ → List Record → Record → Node → Type 0
 StandsWith graph node own r (Host h) = host.StandsWith graph node own r h
-StandsWith graph node own r (Half h) = half.Stands graph node own h
+StandsWith graph node own r (Half h) = half.StandsWith graph node own r h
 
 -- what is kept of a node after a history: it stands for the node's own records, and says whether the node has crashed
 pub record StandsIn (graph : Graph) (node : ℕ) (past : List Record) (k : NodeState) : Type 0 where

@@ -59,6 +59,7 @@ fn decide(
     requires fits { Fits topology.now controller.old }
     requires few_links { length topology.now.links ≤ 1088 }
     requires few_hosts { topology.now.hosts ≤ 192 }
+    requires few_nodes { topology.now.nodes ≤ 192 }
     requires waits { Stand topology.now queues.old (reverse history.old) }
     ensures ok { OnOk result ((v : View) → control.Stands topology.now v controller.old
         → Decides topology.now v queues.old queues.new controller.new history.old history.new) }

@@ -102,7 +102,7 @@ fn act(
     ensures err { OnErr result ((history.new ≡ history.old) × (queues.new ≡ queues.old) × Restores topology.now id.0 state.old state.new) }
     ensures full { IfErr result (λ fault. (items : ℕ) → fault ≡ StepFault.Full items → WouldOverfill topology.now id.0 state.old queues.old history.old event items) }
 {
-    let Ok(step) = work_at(&mut state.node, &event, &took) else {
+    let Ok(step) = work_at(topology, &mut state.node, &event, &took) else {
         return Err(StepFault::NoMemory);
     };
     let crashes = is_crash(&event);
@@ -128,11 +128,16 @@ fn is_crash(event: &Event) -> bool
 }
 
 /// Works out the step of the node that acts. Of the node only what the step makes it hold, note or begin is changed.
-fn work_at(node: &mut Node, event: &Event, took: &Took) -> Result<KeptStep, NoMemory>
-    requires acts { (graph : Graph) × (id : NodeId) × IsAt graph id event.now took.now node.old }
+fn work_at(
+    topology: &Topology,
+    node: &mut Node,
+    event: &Event,
+    took: &Took,
+) -> Result<KeptStep, NoMemory>
+    requires acts { (id : NodeId) × IsAt topology.now id event.now took.now node.old }
     requires undecided { IsUndecided event.now }
-    ensures work { IfOk result (λ step. (graph : Graph) (id : NodeId) (own : List Record) → IsOfGraph graph event.now → ActsAt graph id event.now took.now
-        → kept.Stands graph id.0 own node.old → Works graph id.0 own (record_of event.now took.now step) node.new) }
+    ensures work { IfOk result (λ step. (id : NodeId) (own : List Record) → IsOfGraph topology.now event.now → ActsAt topology.now id event.now took.now
+        → kept.Stands topology.now id.0 own node.old → Works topology.now id.0 own (record_of event.now took.now step) node.new) }
     ensures err { OnErr result (node.new ≡ node.old) }
 {
     match event {
@@ -153,7 +158,7 @@ fn work_at(node: &mut Node, event: &Event, took: &Took) -> Result<KeptStep, NoMe
             let Took::Message { addressed } = took else {
                 unreachable!()
             };
-            node.work_control(&addressed.control)
+            node.work_control(topology, &addressed.control)
         }
         Event::Crash { .. } => Ok(node.work_crash()),
         _ => unreachable!(),

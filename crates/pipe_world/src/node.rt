@@ -16,6 +16,7 @@ use pipe_base::{
 use pipe_host::Host;
 use pipe_model::{Record, Took};
 use pipe_switch::Half;
+use pipe_topo::Topology;
 
 /// A host, or a half of a switch.
 #[derive(Drop)]
@@ -76,15 +77,21 @@ impl Node {
         }
     }
 
-    /// Works out what a control message to the node does. Of the node only the failed hosts that it notes are changed.
-    pub fn work_control(&mut self, control: &Control) -> Result<KeptStep, NoMemory>
-        ensures ok { IfOk result (λ step. (graph : Graph) (node : NodeId) (own : List ARecord) (place : ℕ) (keep : Bool) → Stands graph node.0 own self.old
-            → Works graph node.0 own (told node control.now place keep step) self.new) }
+    /// Works out what a control message to the node does. Of the node only the failed hosts that it notes and the ways that will
+    /// hold next are changed.
+    pub fn work_control(
+        &mut self,
+        topology: &Topology,
+        control: &Control,
+    ) -> Result<KeptStep, NoMemory>
+        requires stands { (node : ℕ) × (own : List ARecord) × Stands topology.now node own self.old }
+        ensures ok { IfOk result (λ step. (node : NodeId) (own : List ARecord) (place : ℕ) (keep : Bool) → Stands topology.now node.0 own self.old
+            → Works topology.now node.0 own (told node control.now place keep step) self.new) }
         ensures err { OnErr result (self.new ≡ self.old) }
     {
         match self {
-            Node::Host(host) => host.work_control(control),
-            Node::Half(half) => half.work_control(control),
+            Node::Host(host) => host.work_control(topology, control),
+            Node::Half(half) => half.work_control(topology, control),
         }
     }
 
@@ -113,8 +120,9 @@ impl Node {
         ensures { (graph : Graph) (node : ℕ) (own : List ARecord) → StandsWith graph node own made.now self.old
             → IsNodeStep graph node own made.now → Stands graph node own self.new }
     {
-        if let Node::Host(host) = self {
-            host.undo(made);
+        match self {
+            Node::Host(host) => host.undo(made),
+            Node::Half(half) => half.undo(),
         }
     }
 }

@@ -20,6 +20,7 @@ ghost use Rattle.pipe_model.specs.Controller.{view};
 ghost use Rattle.pipe_host.specs.Host as hosts;
 ghost use Rattle.pipe_switch.specs.Half as halves;
 ghost use Rattle.pipe_world.specs.Node as node;
+ghost use Rattle.pipe_world.specs.OnTime.{IsLoggedOnTime};
 ghost use Rattle.pipe_world.specs.World.{Extends, HasHalf, HasHost};
 
 use crate::event::run_event;
@@ -90,8 +91,8 @@ impl World {
         )
     }
 
-    /// All that happened, the oldest record first. It is a history by the rules, and the order of the channel holds of it; what
-    /// all correct receivers have passed is in all their logs or in none; no reliable message is late of itself, and where each
+    /// All that happened, the oldest record first. It is a history by the rules, and the order of the channel holds of it; what a
+    /// barrier passes is logged in that step, unless it is late, void or taken back; what all correct receivers have passed is in all their logs or in none; no reliable message is late of itself, and where each
     /// take took the oldest packet of its link, no best-effort message is late.
     pub fn trace(&self) -> &Trace
         ensures trace { result.now ≡ self.now.trace }
@@ -101,6 +102,7 @@ impl World {
         ensures ordered { AreLogsOrdered self.now.graph (reverse self.now.trace) }
         ensures causal { AreStampsCausal self.now.graph (reverse self.now.trace) }
         ensures genuine { IsGenuine self.now.graph (reverse self.now.trace) }
+        ensures on_time { IsLoggedOnTime self.now.graph (reverse self.now.trace) }
         ensures never_late { AreLinksOrdered (reverse self.now.trace) → IsNeverLate (reverse self.now.trace) }
         ensures all_or_none { IsAllOrNone self.now.graph (reverse self.now.trace) }
         ensures none_late { IsNoneLateOfItself self.now.graph (reverse self.now.trace) }
@@ -116,6 +118,7 @@ impl World {
         ensures ordered { AreLogsOrdered self.graph (reverse result) }
         ensures causal { AreStampsCausal self.graph (reverse result) }
         ensures genuine { IsGenuine self.graph (reverse result) }
+        ensures on_time { IsLoggedOnTime self.graph (reverse result) }
         ensures never_late { AreLinksOrdered (reverse result) → IsNeverLate (reverse result) }
         ensures all_or_none { IsAllOrNone self.graph (reverse result) }
         ensures none_late { IsNoneLateOfItself self.graph (reverse result) }

@@ -27,6 +27,7 @@ returns-clause-ok c = λ bytes few read.
       ordered = c.into_trace.ensures.ordered;
       causal = c.into_trace.ensures.causal;
       genuine = c.into_trace.ensures.genuine;
+      on_time = c.into_trace.ensures.on_time;
       never_late = λ ordered. c.into_trace.ensures.never_late (of_history IsOfOldest c.args.input.events c.into_trace.result events_are ordered);
       all_or_none = c.into_trace.ensures.all_or_none;
       none_late = c.into_trace.ensures.none_late;

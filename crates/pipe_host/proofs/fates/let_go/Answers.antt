@@ -1,10 +1,11 @@
 use Rattle.std.proofs.Common.{◌≡◌, Some, false, Option, ap, sym, subst, ◌∙◌}
-use Rattle.pipe_base.specs.Messages.{has_key, with_message}
+use Rattle.pipe_base.specs.Messages.{Messages, has_key, with_message}
 use Rattle.pipe_base.specs.declared.message.Key.{Key}
 use Rattle.pipe_base.specs.declared.step.Fate.{Fate}
 use Rattle.pipe_base.specs.declared.step.Fate.TheVariants.{Held}
 use Rattle.pipe_model.specs.Fate.{with_held}
 use Rattle.pipe_model.specs.Got.{key_of}
+use Rattle.pipe_reorder.specs.Buffer.{Buffer}
 use Rattle.pipe_host.specs.Buffers.{IsNew}
 use Rattle.pipe_host.proofs.fates.let_go.Goals as goal
 
@@ -16,11 +17,7 @@ returns-in-Some-Held c =
     = subst (λ (fate : Option Fate). IsNew fate (Some c.args.packet.now) messages) fate_is fresh in
     let held_is : c.args.held.now.messages ≡ with_message (key_of c.args.packet.now) c.args.packet.now.body messages
     = subst (λ (fate : Option Fate). c.args.held.now.messages ≡ with_held fate (Some c.args.packet.now) messages) fate_is is in
-    c.unhold.ensures.undoes (record { service = c.args.held.now.service; barrier = c.args.held.now.barrier; failed = c.args.held.now.failed; messages = messages }) c.args.packet.now.body
+    c.unhold.ensures.undoes (record c.args.held.now { messages = messages }) c.args.packet.now.body
     (ap (λ (key : Key). has_key key messages) c.key_of.ensures ∙ fresh_key)
-    (λ i. record {
-      service = c.args.held.now.service;
-      barrier = c.args.held.now.barrier;
-      failed = c.args.held.now.failed;
-      messages = (held_is ∙ ap (λ (key : Key). with_message key c.args.packet.now.body messages) (sym c.key_of.ensures)) i;
-    })
+    (ap {B = Buffer} (λ (ms : Messages). record c.args.held.now { messages = ms })
+    (held_is ∙ ap (λ (key : Key). with_message key c.args.packet.now.body messages) (sym c.key_of.ensures)))

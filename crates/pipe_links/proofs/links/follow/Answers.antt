@@ -2,7 +2,7 @@ use Rattle.std.proofs.Common.{List, ◌∷◌, subst, sym}
 use Rattle.pipe_base.specs.declared.name.LinkId.{LinkId}
 use Rattle.pipe_base.specs.declared.name.Ts.{Ts}
 use Rattle.pipe_base.specs.Graph.{ins_of}
-use Rattle.pipe_base.specs.Moment.{with_downed}
+use Rattle.pipe_base.specs.Moment.{with_downed, with_dropped}
 use Rattle.pipe_base.specs.Silence.{Ticked}
 use Rattle.pipe_barrier.specs.InLinks.{Stands}
 use Rattle.pipe_model.specs.Moments.{moments_of, quiet_calls, received}
@@ -27,6 +27,9 @@ returns-in-Some-tick_of c = λ graph node own stands comes step.
 pub returns-in-None-tick_of : goal.returns-in-None-tick_of
 returns-in-None-tick_of c = λ graph node own stands comes step.
     let r = c.args.made.now in
-    marks_follow graph node own r c.down.new.self step (none_from (received own r) (c.in-None.ensures graph node own stands comes)) c.in-None-tick_of.ensures
+    marks_follow graph node own r c.remove.new.self (none_from (received own r) (c.in-None.ensures graph node own stands comes)) c.in-None-tick_of.ensures
+    (subst (λ (drops : List LinkId). Stands (ins_of graph node) graph.patience c.remove.new.self (with_dropped drops (with_downed r.step.downed (moments_of own))) (quiet_calls own))
+    c.dropped.ensures
+    (c.remove.ensures (ins_of graph node) graph.patience (with_downed r.step.downed (moments_of own)) (quiet_calls own)
     (subst (λ (marks : List (LinkId × Ts)). Stands (ins_of graph node) graph.patience c.down.new.self (with_downed marks (moments_of own)) (quiet_calls own))
-    c.downed-in-None-tick_of.ensures (c.down.ensures (ins_of graph node) graph.patience (moments_of own) (quiet_calls own) stands))
+    c.downed-in-None-tick_of.ensures (c.down.ensures (ins_of graph node) graph.patience (moments_of own) (quiet_calls own) stands))))

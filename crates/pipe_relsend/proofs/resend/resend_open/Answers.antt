@@ -4,8 +4,8 @@ use Rattle.pipe_base.specs.declared.step.Step.{Step}
 use Rattle.pipe_base.specs.ShortestRoute.{picked}
 use Rattle.pipe_base.specs.Ways.{PutsAlone, with_ways}
 use Rattle.pipe_base.proofs.WayLaws.{alone_more, ways_more}
-use Rattle.pipe_relsend.specs.Header.{message_again}
-use Rattle.pipe_relsend.specs.Preparation.{open_dests}
+use Rattle.pipe_relsend.specs.Header.{packet_again}
+use Rattle.pipe_relsend.specs.Pending.{open_dests}
 use Rattle.pipe_relsend.proofs.MarkLaws.{open_here, open_skip}
 use Rattle.pipe_relsend.proofs.resend.resend_open.Goals.{then-not-marks-at+in_ok-resend_one, else-not-marks-at}
 use Rattle.pipe_relsend.proofs.resend.resend_open.Goals as goal
@@ -13,7 +13,7 @@ use Rattle.pipe_relsend.proofs.resend.resend_open.Goals as goal
 pub loop-at-preserved : goal.loop-at-preserved
 loop-at-preserved g c =
     let way = picked (g.R.Router.links c.args.routes.now) in
-    let message = message_again c.args.header in
+    let message = packet_again c.args.header in
     let ds = c.args.dests.now in
     let ms = c.args.marks in
     let at = c.loop-at.at in

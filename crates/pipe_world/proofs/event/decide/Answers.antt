@@ -40,6 +40,7 @@ enter-requires-clause-few c =
       messages_few graph (after_decision graph v),
       c.requires.few_links,
       c.requires.few_hosts,
+      c.requires.few_nodes,
     )
 
 pub returns-in-Ok-enter-clause-ok : goal.returns-in-Ok-enter-clause-ok

@@ -13,9 +13,9 @@ use Rattle.pipe_model.specs.View.{View, after_message}
 use Rattle.pipe_world.proofs.event.hear.Goals as goal
 
 heard : (graph : Graph) (v : View) (event : Event) (took : Took) (place : ℕ) (keep : Bool) (a : Addressed) → event ≡ ControlTake place keep → took ≡ Message a
-    → a.to ≡ Controller → after_message a.control v ≡ after_event graph event took v
+    → a.to ≡ Controller → after_message graph a.control v ≡ after_event graph event took v
 heard graph v event took place keep a event_is took_is to_is =
-    ap (λ (to : To). after_addressed to a.control v) (sym to_is)
+    ap (λ (to : To). after_addressed graph to a.control v) (sym to_is)
     ∙ ap (λ (t : Took). after_event graph (ControlTake place keep) t v) (sym took_is)
     ∙ ap (λ (e : Event). after_event graph e took v) (sym event_is)
 

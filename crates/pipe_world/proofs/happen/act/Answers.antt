@@ -14,21 +14,21 @@ use Rattle.pipe_world.proofs.happen.act.Goals as goal
 
 pub work_at-requires : goal.work_at-requires
 work_at-requires c = record {
-  acts = (c.args.topology.now, c.args.id, record { names = c.requires.event; acts = c.requires.acts; own = c.requires.stands.own; stands = c.requires.stands.stands });
+  acts = (c.args.id, record { names = c.requires.event; acts = c.requires.acts; own = c.requires.stands.own; stands = c.requires.stands.stands });
   undecided = c.requires.undecided;
 }
 
 pub enter-requires-clause-known : goal.enter-requires-clause-known
 enter-requires-clause-known c =
     let graph = c.args.topology.now in
-    let works = c.in-Ok.ensures.work graph c.args.id c.requires.stands.own c.requires.event c.requires.acts c.requires.stands.stands in
+    let works = c.in-Ok.ensures.work c.args.id c.requires.stands.own c.requires.event c.requires.acts c.requires.stands.stands in
     subst (λ (n : ℕ). AreKnown n c.in-Ok.step.put) (sym c.requires.waits.count)
     (puts_known graph c.args.id.0 c.requires.stands.own (record_of c.args.event c.args.took c.in-Ok.step) works.rules)
 
 pub enter-requires-clause-few : goal.enter-requires-clause-few
 enter-requires-clause-few c =
     let graph = c.args.topology.now in
-    let works = c.in-Ok.ensures.work graph c.args.id c.requires.stands.own c.requires.event c.requires.acts c.requires.stands.stands in
+    let works = c.in-Ok.ensures.work c.args.id c.requires.stands.own c.requires.event c.requires.acts c.requires.stands.stands in
     let past = c.requires.stands in
     omega (arith, items_few graph c.args.id.0 past.own (record_of c.args.event c.args.took c.in-Ok.step) past.rules past.names c.requires.event works.rules, c.requires.few)
 
@@ -52,7 +52,7 @@ returns-in-Ok-enter-clause-ok c =
       refl,
       added graph c.args.id c.args.state.now after c.work_at.new.node c.args.queues.now c.enter.new.queues c.args.event c.args.took step
           c.requires.event c.requires.undecided c.requires.acts c.requires.took c.requires.there c.requires.awake c.is_crash-crashes.ensures
-          (λ o stands. c.in-Ok.ensures.work graph c.args.id o c.requires.event c.requires.acts stands)
+          (λ o stands. c.in-Ok.ensures.work c.args.id o c.requires.event c.requires.acts stands)
           (follows graph c.args.id.0)
           (λ past waits. c.in-Ok-enter.ensures.queues_ok graph past waits),
     )
@@ -65,7 +65,7 @@ returns-in-Err-clause-err c =
       c.in-Err.ensures.err.same,
       c.in-Err.ensures.queues_err,
       λ past stands.
-          let works = c.in-Ok.ensures.work graph c.args.id (own graph c.args.id.0 past) c.requires.event c.requires.acts stands.node_stands in
+          let works = c.in-Ok.ensures.work c.args.id (own graph c.args.id.0 past) c.requires.event c.requires.acts stands.node_stands in
           record { node_stands = undoes graph c.args.id.0 (own graph c.args.id.0 past) works.stands works.rules; crashed_is = stands.crashed_is },
     )
 
@@ -75,6 +75,6 @@ returns-in-Err-clause-full c = λ items is. record {
   event_is = refl;
   rules = λ past run stands waits.
       worked c.args.topology.now c.args.id c.args.queues.now c.args.event c.args.took c.in-Ok.step past c.requires.event c.requires.undecided c.requires.acts c.requires.took c.requires.there
-      (c.in-Ok.ensures.work c.args.topology.now c.args.id _ c.requires.event c.requires.acts stands.node_stands).rules (sym stands.crashed_is ∙ c.requires.awake) waits;
+      (c.in-Ok.ensures.work c.args.id _ c.requires.event c.requires.acts stands.node_stands).rules (sym stands.crashed_is ∙ c.requires.awake) waits;
   over = c.in-Err.ensures.err.full items is;
 }

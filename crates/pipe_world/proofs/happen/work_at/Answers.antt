@@ -25,9 +25,9 @@ use Rattle.pipe_world.proofs.WorldSteps.{comes_in}
 use Rattle.pipe_world.proofs.happen.work_at.Goals as goal
 
 -- what the acting node works out, for the event and for what it takes
-abbrev WorksOut : Event → Took → Node → Node → Step → Type 0
-WorksOut event took before after step =
-    (graph : Graph) (id : NodeId) (own : List Record) → IsOfGraph graph event → ActsAt graph id event took → Stands graph id.0 own before → Works graph id.0 own (record_of event took step) after
+abbrev WorksOut : Graph → Event → Took → Node → Node → Step → Type 0
+WorksOut graph event took before after step =
+    (id : NodeId) (own : List Record) → IsOfGraph graph event → ActsAt graph id event took → Stands graph id.0 own before → Works graph id.0 own (record_of event took step) after
 
 renamed : (graph : Graph) (n : ℕ) (own : List Record) (k : Node) (event e : Event) (took t : Took) (step : Step) → event ≡ e → took ≡ t
     → Works graph n own (record_of e t step) k → Works graph n own (record_of event took step) k
@@ -49,8 +49,9 @@ returns-in-Send-clause-work c =
     IfOk-weaker c.work_send.result
     (λ (step : Step). (graph : Graph) (host : HostId) (own : List Record) → Stands graph host.0 own c.args.node.now
     → Works graph host.0 own (sent host c.in-Send.service c.in-Send.now c.in-Send.dests step) k)
-    (WorksOut event took c.args.node.now k)
-    (λ step works graph id own names acts stands.
+    (WorksOut c.args.topology.now event took c.args.node.now k)
+    (λ step works id own names acts stands.
+    let graph : Graph = c.args.topology.now in
     let at : (id.0 ≡ c.in-Send.host.0) × (took ≡ Nothing) = subst (λ (x : Event). ActsAt graph id x took) c.in-Send.is acts in
     renamed graph id.0 own k event e took Nothing step c.in-Send.is at.1
     (subst (λ (n : ℕ). Works graph n own (record_of e Nothing step) k) (sym at.0)
@@ -68,8 +69,9 @@ returns-in-Link-clause-work c =
     IfOk-weaker c.work_take.result
     (λ (step : Step). (graph : Graph) (node : ℕ) (own : List Record) (place : ℕ) (keep : Bool) → Stands graph node own c.args.node.now
     → has_link link.0 (ins_of graph node) ≡ true → Works graph node own (taken link p place keep step) k)
-    (WorksOut event took c.args.node.now k)
-    (λ step works graph id own names acts stands.
+    (WorksOut c.args.topology.now event took c.args.node.now k)
+    (λ step works id own names acts stands.
+    let graph : Graph = c.args.topology.now in
     let at = subst (λ (x : Event). ActsAt graph id x took) c.in-Take.is acts in
     let same : at.1 ≡ p = one_packet link c.in-Link.link at.1 p (sym at.2 ∙ c.in-Link.is) in
     let comes : has_link link.0 (ins_of graph id.0) ≡ true = subst (ComesIn graph id.0) c.in-Take.is (comes_in graph id event took names acts) in
@@ -83,14 +85,15 @@ returns-in-Message-clause-work c =
     let took : Took = c.args.took.now in
     let control = c.in-Message.addressed.control in
     IfOk-weaker c.work_control.result
-    (λ (step : Step). (graph : Graph) (node : NodeId) (own : List Record) (place : ℕ) (keep : Bool) → Stands graph node.0 own c.args.node.now
-    → Works graph node.0 own (told node control place keep step) k)
-    (WorksOut event took c.args.node.now k)
-    (λ step works graph id own names acts stands.
+    (λ (step : Step). (node : NodeId) (own : List Record) (place : ℕ) (keep : Bool) → Stands c.args.topology.now node.0 own c.args.node.now
+    → Works c.args.topology.now node.0 own (told node control place keep step) k)
+    (WorksOut c.args.topology.now event took c.args.node.now k)
+    (λ step works id own names acts stands.
+    let graph : Graph = c.args.topology.now in
     let at = subst (λ (x : Event). ActsAt graph id x took) c.in-ControlTake.is acts in
     let same : at.0 ≡ control = ap (λ (m : Addressed). m.control) (one_message (record { to = ToNode id; control = at.0 }) c.in-Message.addressed (sym at.1 ∙ c.in-Message.is)) in
     renamed graph id.0 own k event (ControlTake c.in-ControlTake.place c.in-ControlTake.keep) took (Message (record { to = ToNode id; control = control })) step c.in-ControlTake.is
-    (at.1 ∙ ap (λ (x : Control). Message (record { to = ToNode id; control = x })) same) (works graph id own c.in-ControlTake.place c.in-ControlTake.keep stands))
+    (at.1 ∙ ap (λ (x : Control). Message (record { to = ToNode id; control = x })) same) (works id own c.in-ControlTake.place c.in-ControlTake.keep stands))
     c.work_control.ensures.ok
 
 pub returns-in-Tick-clause-work : goal.returns-in-Tick-clause-work
@@ -102,8 +105,9 @@ returns-in-Tick-clause-work c =
     let e : Event = Tick n c.in-Tick.now in
     IfOk-weaker c.work_tick.result
     (λ (step : Step). (graph : Graph) (node : NodeId) (own : List Record) → Stands graph node.0 own k → Works graph node.0 own (ticked node c.in-Tick.now step) k)
-    (WorksOut event took k k)
-    (λ step works graph id own names acts stands.
+    (WorksOut c.args.topology.now event took k k)
+    (λ step works id own names acts stands.
+    let graph : Graph = c.args.topology.now in
     let at : (id ≡ n) × (took ≡ Nothing) = subst (λ (x : Event). ActsAt graph id x took) c.in-Tick.is acts in
     renamed graph id.0 own k event e took Nothing step c.in-Tick.is at.1
     (subst (λ (m : NodeId). Works graph m.0 own (record_of e Nothing step) k) (sym at.0)
@@ -111,7 +115,8 @@ returns-in-Tick-clause-work c =
     c.work_tick.ensures
 
 pub returns-in-Crash-clause-work : goal.returns-in-Crash-clause-work
-returns-in-Crash-clause-work c = λ graph id own names acts stands.
+returns-in-Crash-clause-work c = λ id own names acts stands.
+    let graph : Graph = c.args.topology.now in
     let k = c.args.node.now in
     let event : Event = c.args.event.now in
     let took : Took = c.args.took.now in

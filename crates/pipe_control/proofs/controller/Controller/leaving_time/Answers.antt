@@ -1,7 +1,7 @@
 use Rattle.std.proofs.Common.{◌≡◌, ℕ, Bool, true, false, if◌then◌else◌, Option, None, IfOk, sym, ap, subst, ◌∙◌}
 use Rattle.pipe_base.specs.declared.name.Ts.{Ts}
 use Rattle.pipe_base.specs.Cut.{is_cut}
-use Rattle.pipe_control.specs.Known.{view_with}
+use Rattle.pipe_control.specs.Known.{view_of}
 use Rattle.pipe_model.specs.Decision.{time_at}
 use Rattle.pipe_model.specs.View.{intact, is_kept}
 use Rattle.pipe_control.proofs.controller.Controller.leaving_time.Goals as goal
@@ -9,7 +9,7 @@ use Rattle.pipe_control.proofs.controller.Controller.leaving_time.Goals as goal
 pub returns-then-branch : goal.returns-then-branch
 returns-then-branch c =
     let g = c.args.topology.now in
-    let v = view_with c.args.self.now c.args.doomed.now c.args.self.now.announced in
+    let v = view_of c.args.self.now in
     let host = c.args.host.0 in
     let cut : is_cut g (intact v) (is_kept v) host ≡ true =
     ap (λ (kept : ℕ → Bool). is_cut g (intact v) kept host) (sym c.requires.kept) ∙ sym c.in_ok-is_cut.ensures ∙ c.if-branch.true in
@@ -18,7 +18,7 @@ returns-then-branch c =
 pub returns-else-branch : goal.returns-else-branch
 returns-else-branch c =
     let g = c.args.topology.now in
-    let v = view_with c.args.self.now c.args.doomed.now c.args.self.now.announced in
+    let v = view_of c.args.self.now in
     let host = c.args.host.0 in
     let cut : is_cut g (intact v) (is_kept v) host ≡ false =
     ap (λ (kept : ℕ → Bool). is_cut g (intact v) kept host) (sym c.requires.kept) ∙ sym c.in_ok-is_cut.ensures ∙ c.if-branch.false in

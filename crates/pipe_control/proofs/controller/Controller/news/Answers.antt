@@ -1,6 +1,6 @@
 use Rattle.std.proofs.Common.{◌+◌, ◌<◌, ◌++◌, ◌∷◌, [], List, sym, ap, ◌∙◌, arith}
 use Rattle.pipe_base.specs.declared.control.Announced.{Announced}
-use Rattle.pipe_control.specs.Known.{view_with}
+use Rattle.pipe_control.specs.Known.{view_of}
 use Rattle.pipe_control.proofs.NewsLaws.{hosts_from, told, told_next, told_none, told_past}
 use Rattle.pipe_control.proofs.controller.Controller.news.Goals.{then-is_due+in_ok-time+in-Some+in_ok-push-in-Some, else-is_due}
 use Rattle.pipe_control.proofs.controller.Controller.news.Goals as goal
@@ -8,7 +8,7 @@ use Rattle.pipe_control.proofs.controller.Controller.news.Goals as goal
 pub returns-in-None : goal.returns-in-None
 returns-in-None c =
     let g = c.args.topology.now in
-    let v = view_with c.args.self.now c.args.doomed.now c.args.self.now.announced in
+    let v = view_of c.args.self.now in
     let test = c.loop-host-test.true in
     let end = c.hosts-host-end.ensures.value in
     let lt : c.loop-host.host < g.hosts = omega arith in
@@ -19,7 +19,7 @@ returns-in-None c =
 pub loop-host-preserved : goal.loop-host-preserved
 loop-host-preserved c =
     let g = c.args.topology.now in
-    let v = view_with c.args.self.now c.args.doomed.now c.args.self.now.announced in
+    let v = view_of c.args.self.now in
     let test = c.loop-host-test.true in
     let end = c.hosts-host-end.ensures.value in
     let lt : c.loop-host.host < g.hosts = omega arith in

@@ -19,6 +19,6 @@ returns-clause-within c =
     on_ok_weaker c.copy_passed-2.result
     (λ (is : c.copy_passed-2.new.out ≡ c.copy_passed.new.out ++ reliable) below.
     subst (AreBelow (2 ^ 64 - 1)) (sym (is ∙ ap (λ (es : List (Service × Entry)). es ++ reliable) c.in_ok-copy_passed.ensures.ok))
-    (both_below_end (out ++ best) reliable (both_below_end out best below (out_below_end b.be.0 h.best.service h.best.failed h.best.messages be_within))
-    (out_below_end b.commit.0 h.reliable.service h.reliable.failed h.reliable.messages commit_within)))
+    (both_below_end (out ++ best) reliable (both_below_end out best below (out_below_end b.be.0 h.best.service h.best.failed h.best.tombstones h.best.messages be_within))
+    (out_below_end b.commit.0 h.reliable.service h.reliable.failed h.reliable.tombstones h.reliable.messages commit_within)))
     c.copy_passed-2.ensures.ok

@@ -1,29 +1,41 @@
-use Rattle.std.proofs.Common.{ℕ, ◌≤◌, ◌-◌, ◌^◌, ◌∷◌, ap, sym, subst, ◌∙◌, arith}
+use Rattle.std.proofs.Common.{◌≡◌, ℕ, ◌≤◌, ◌-◌, ◌^◌, List, ◌∷◌, ap, sym, subst, ◌∙◌, arith}
+use Rattle.pipe_base.specs.declared.control.Announced.{Announced}
 use Rattle.pipe_base.specs.Clock.{next_after}
 use Rattle.pipe_base.specs.Messages.{AreBelow}
+use Rattle.pipe_base.specs.Scattering.{SenderCall}
 use Rattle.pipe_model.specs.declared.record.Record.{Record}
 use Rattle.pipe_model.specs.Clock.{tick_reading}
-use Rattle.pipe_model.specs.Sender.{sender_calls, with_begun}
+use Rattle.pipe_model.specs.Got.{gets}
+use Rattle.pipe_model.specs.Moments.{noted_hosts}
+use Rattle.pipe_model.specs.Sender.{sender_calls, with_answer, with_begun, with_noted}
+use Rattle.pipe_relsend.specs.Sending as sending
+use Rattle.pipe_host.specs.declared.buffers.Buffers.{Buffers}
 use Rattle.pipe_host.proofs.Bounds.{logged_below_end, stamp_within}
+use Rattle.pipe_host.proofs.HostSteps.{knows_all}
 use Rattle.pipe_host.proofs.host.Host.follow.Goals as goal
 
 pub returns : goal.returns
 returns c = λ graph node own stands comes step.
     let r : Record = c.args.made.now in
-    let holds = stands.holds in
     let b = c.barriers.result in
-    let after = c.follow.ensures graph node own holds.links_are comes step in
+    let after = c.follow.ensures graph node own stands.links_are comes step in
     let bars = c.barriers.ensures.are graph node (r ∷ own) after in
     let be_within : b.be.0 ≤ 2 ^ 64 - 1 = omega arith in
     let commit_within : b.commit.0 ≤ 2 ^ 64 - 1 = omega arith in
     let below : AreBelow (2 ^ 64 - 1) r.step.logged =
     subst (AreBelow (2 ^ 64 - 1)) (sym step.logged_is)
     (logged_below_end graph node own r (subst (λ (n : ℕ). n ≤ 2 ^ 64 - 1) bars.be_is be_within) (subst (λ (n : ℕ). n ≤ 2 ^ 64 - 1) bars.commit_is commit_within)) in
+    let begun : List SenderCall = with_begun r.event r.step.stamped (sender_calls graph node own) in
+    let heard : List SenderCall = with_answer (gets graph node own r) begun in
+    let noted_are : c.noted.result.now ≡ noted_hosts (r ∷ own) =
+    c.noted.ensures ∙ ap (λ (h : Buffers). h.reliable.failed) (c.let_out.ensures graph node own bars stands.held_are) in
     record {
-      host = holds.host;
+      host = stands.host;
       links_are = after;
       next_is = c.follow-2.ensures below (stamp_within graph node own r.event r.step.stamped step.stamped_is)
-          ∙ ap (λ (n : ℕ). next_after n (tick_reading r.event) r.step.stamped r.step.logged) holds.next_is;
-      held_are = c.let_out.ensures graph node own bars holds.held_are;
-      sender_is = c.acknowledge.ensures graph node own (with_begun r.event r.step.stamped (sender_calls graph node own)) holds.links_are holds.host comes holds.sender_is;
+          ∙ ap (λ (n : ℕ). next_after n (tick_reading r.event) r.step.stamped r.step.logged) stands.next_is;
+      held_are = c.let_out.ensures graph node own bars stands.held_are;
+      sender_is = subst (λ (noted : List Announced). sending.Stands (with_noted noted r.step.noted heard) c.note.new.sender) noted_are
+          (c.note.ensures heard (c.hear.ensures graph node own begun stands.taking stands.host comes stands.sender_is)
+          (subst (λ (noted : List Announced). sending.KnowsAll noted heard) (sym noted_are) (knows_all graph node own r)));
     }

@@ -13,7 +13,7 @@ returns-clause-ok c = λ graph host own stands.
     let sent : HostId → Record = λ (h : HostId). steps.sent h c.args.service c.args.now c.args.dests c.in_ok-worked.worked in
     let works = c.in_ok-worked.ensures.ok graph host own stands in
     let me : HostId = record { 0 = c.node.result.0 } in
-    let me_is : me ≡ host = ap {B = HostId} (λ (n : NodeId). record { 0 = n.0 }) c.node.ensures ∙ ap {B = HostId} (λ (n : ℕ). record { 0 = n }) works.stands.holds.links_are.node_is in
+    let me_is : me ≡ host = ap {B = HostId} (λ (n : NodeId). record { 0 = n.0 }) c.node.ensures ∙ ap {B = HostId} (λ (n : ℕ). record { 0 = n }) works.stands.links_are.stands.node_is in
     let rules : IsNodeStep graph host.0 own (sent me) = subst (λ (h : HostId). IsNodeStep graph host.0 own (sent h)) (sym me_is) works.rules in
     let ready : StandsWith graph host.0 own (sent me) c.work_send.new.self = subst (λ (h : HostId). StandsWith graph host.0 own (sent h) c.work_send.new.self) (sym me_is) works.stands in
     subst (λ (s : Step). Does graph host.0 own (steps.sent host c.args.service c.args.now c.args.dests s) c.follow.new.self) (sym c.into_step.ensures)

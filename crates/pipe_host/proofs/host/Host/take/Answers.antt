@@ -18,10 +18,10 @@ returns-clause-ok c = λ graph node own place keep stands comes.
         host = after.host;
         links_are = record {
           node_is = links.node_is;
-          outs_are = links.outs_are;
-          routes_are = links.routes_are;
+          within = links.within;
           ins_are = links.ins_are;
-          no_drops = links.no_drops;
+          ways_are = links.ways_are;
+          none_ahead = links.none_ahead;
           history = (stands.links_are.history, rules);
         };
         next_is = after.next_is;

@@ -1,4 +1,5 @@
-use Rattle.std.proofs.Common.{◌≡◌, [], ◌∷◌, true, false, Option, Some, refl, ap, sym, subst, ◌∙◌}
+use Rattle.std.proofs.Common.{◌≡◌, ℕ, ◌==◌, [], true, false, Option, Some, refl, ap, sym, subst, ◌∙◌}
+use Rattle.pipe_base.specs.declared.name.NodeId.{NodeId}
 use Rattle.pipe_base.specs.declared.packet.Packet.{Packet}
 use Rattle.pipe_base.specs.declared.step.Fate.{Fate}
 use Rattle.pipe_base.specs.declared.step.Outcome.TheVariants.{Ignored}
@@ -12,11 +13,11 @@ use Rattle.pipe_model.specs.Moments.{moments_of, received}
 use Rattle.pipe_model.proofs.Steps.{taken_ignored, taken_received}
 use Rattle.pipe_host.specs.declared.buffers.Buffers.{Buffers}
 use Rattle.pipe_host.specs.declared.host.Host.{Host}
-use Rattle.pipe_host.specs.Buffers.{all_joined, fate_among}
-use Rattle.pipe_host.specs.Host.{StandsWith, Works, buffers_with}
+use Rattle.pipe_host.specs.Buffers.{all_burying, all_joined, fate_among, where_mine}
+use Rattle.pipe_host.specs.Host.{Works, buffers_for, buffers_with}
 use Rattle.pipe_host.specs.Steps.{taken}
-use Rattle.pipe_host.proofs.HostSteps.{ignores, receives, up_from}
-use Rattle.pipe_host.proofs.RecordLaws.{held_with, still_buffers}
+use Rattle.pipe_host.proofs.HostSteps.{IsReady, ignores, links_ready, receives, still_ready, up_from}
+use Rattle.pipe_host.proofs.RecordLaws.{buries_mine, held_with}
 use Rattle.pipe_host.proofs.host.Host.work_take.Goals as goal
 
 pub returns-then-not-is_up-clause-ok : goal.returns-then-not-is_up-clause-ok
@@ -30,16 +31,7 @@ returns-then-not-is_up-clause-ok c = λ graph node own place keep stands comes.
     subst (λ (s : Step). Works graph node own (taken link p place keep s) c.args.self.now) (sym c.quiet.ensures)
     (record {
       rules = ignores graph node own link p place keep stands.host down;
-      stands = record {
-        holds = record {
-          host = stands.host;
-          links_are = stands.links_are;
-          next_is = stands.next_is;
-          held_are = stands.held_are ∙ sym (still_buffers graph node own r (taken_ignored (moments_of own) link p place keep down) refl);
-          sender_is = stands.sender_is;
-        };
-        receiver = tt;
-      };
+      stands = still_ready graph node own r c.args.self.now stands stands.links_are (taken_ignored (moments_of own) link p place keep down) refl refl stands.sender_is tt;
     })
 
 pub returns-in-Ok-clause-ok : goal.returns-in-Ok-clause-ok
@@ -48,9 +40,9 @@ returns-in-Ok-clause-ok c = λ graph node own place keep stands comes.
     let p : Packet = c.args.packet.now in
     let fate : Option Fate = c.fate-fate.result in
     let step : Step = c.in-Ok.step in
-    let before : Buffers = buffers_with graph node own own in
+    let before : Buffers = buffers_for graph node own in
     let brought : Option Packet = gets_of graph node (Some (link.0, p)) in
-    let k : Host = record c.args.self.now { held = c.hold.new.self } in
+    let k : Host = record c.args.self.now { held = c.take_in.new.self } in
     let up : is_up (moments_of own) link.0 ≡ true =
     up_from c.is_up.result (has_link link.0 (ins_of graph node)) (is_up (moments_of own) link.0) (c.is_up.ensures graph node own stands.links_are) comes
     ∙ c.if-not-is_up.false in
@@ -59,20 +51,38 @@ returns-in-Ok-clause-ok c = λ graph node own place keep stands comes.
     let fate_is : fate ≡ fate_among before brought =
     c.fate-fate.ensures.value graph node own link stands ∙ ap (λ (h : Buffers). fate_among h brought) stands.held_are in
     let no_news : step.noted ≡ [] = ap (λ (s : Step). s.noted) (c.in-Ok.ensures.step_is graph node own stands.links_are) in
-    let held_now : c.hold.new.self ≡ buffers_with graph node own (r ∷ own) =
-    c.in_ok-hold.ensures.ok ∙ ap (all_joined fate p) stands.held_are ∙ ap (λ (f : Option Fate). all_joined f p before) fate_is ∙ held_with graph node own r link.0 p got no_news in
-    let ready : StandsWith graph node own r k =
+    let no_drops : step.dropped ≡ [] = ap (λ (s : Step). s.dropped) (c.in-Ok.ensures.step_is graph node own stands.links_are) in
+    let me_is : c.node.result.0 ≡ node = ap {B = ℕ} (λ (n : NodeId). n.0) c.node.ensures ∙ stands.links_are.node_is in
+    let held_now : c.take_in.new.self ≡ buffers_with graph node own r =
+    c.in_ok-take_in.ensures.ok
+    ∙ ap (λ (n : ℕ). all_joined fate p (all_burying (where_mine (p.dst.0 == n) p) c.args.self.now.held)) me_is
+    ∙ ap (λ (h : Buffers). all_joined fate p (all_burying (where_mine (p.dst.0 == node) p) h)) stands.held_are
+    ∙ ap (all_joined fate p) (buries_mine graph node link.0 p before stands.host)
+    ∙ ap (λ (f : Option Fate). all_joined f p (all_burying brought before)) fate_is ∙ held_with graph node own r link.0 p got no_news in
+    let ready : IsReady graph node own r k =
     record {
-      holds = record {
-        host = stands.host;
-        links_are = stands.links_are;
-        next_is = stands.next_is;
-        held_are = held_now;
-        sender_is = stands.sender_is;
-      };
-      receiver = tt;
+      host = stands.host;
+      links_are = stands.links_are;
+      next_is = stands.next_is;
+      held_are = held_now;
+      sender_is = stands.sender_is;
     } in
     record {
       rules = receives graph node own link p place keep fate k step ready up fate_is c.in-Ok.ensures;
-      stands = ready;
+      stands = record {
+        host = stands.host;
+        links_are = links_ready graph node own r k.links stands.links_are no_drops;
+        taking = stands.links_are;
+        next_is = stands.next_is;
+        held_are = held_now;
+        sender_is = stands.sender_is;
+        receiver = tt;
+      };
     }
+
+pub returns-in-Err-clause-err : goal.returns-in-Err-clause-err
+returns-in-Err-clause-err c =
+    let p : Packet = c.args.packet.now in
+    let k : Host = c.args.self.now in
+    ap {B = Host} (λ (h : Buffers). record k { held = h })
+    (c.give_back.ensures k.held (where_mine (p.dst.0 == c.node.result.0) p) c.newest-newest.ensures c.fate-fate.ensures.fresh c.in_ok-take_in.ensures.ok)

@@ -1,4 +1,4 @@
-use Rattle.std.proofs.Common.{◌≡◌, ℕ, ◌<◌, ◌-◌, ◌^◌, List, ◌++◌, None, refl, ap, sym, subst, ◌∙◌, arith, [], max}
+use Rattle.std.proofs.Common.{◌≡◌, ℕ, ◌<◌, ◌-◌, ◌^◌, List, ◌++◌, None, refl, ap, sym, subst, ◌∙◌, arith, max}
 use Rattle.std.proofs.lemmas.List.Elements.{All-nil}
 use Rattle.std.proofs.lemmas.Result.{IfOk-weaker}
 use Rattle.pipe_base.specs.declared.message.Entry.{Entry}
@@ -11,7 +11,7 @@ use Rattle.pipe_base.specs.declared.packet.Packet.{Packet}
 use Rattle.pipe_base.specs.declared.step.Outcome.TheVariants.{Ok}
 use Rattle.pipe_base.specs.declared.step.Step.{Step}
 use Rattle.pipe_base.specs.Clock.{next_after, after_logged}
-use Rattle.pipe_base.specs.Graph.{Graph, outs_of}
+use Rattle.pipe_base.specs.Graph.{Graph}
 use Rattle.pipe_base.specs.Messages.{AreBelow}
 use Rattle.pipe_base.specs.Packets.{Fields}
 use Rattle.pipe_base.specs.Promise.{promise_of}
@@ -20,17 +20,18 @@ use Rattle.pipe_base.specs.Scattering.{SenderCall}
 use Rattle.pipe_base.specs.ShortestRoute.{picked, route}
 use Rattle.pipe_base.specs.Step.{quiet_step}
 use Rattle.pipe_base.specs.Ways.{with_beacons, with_ways}
-use Rattle.pipe_links.proofs.Ways.{ways_are}
+use Rattle.pipe_links.specs.Ways.{outs_left}
+use Rattle.pipe_links.proofs.WayLaws.{ways_are}
 use Rattle.pipe_model.specs.declared.record.Record.{Record}
 use Rattle.pipe_model.specs.Clock.{next}
+use Rattle.pipe_model.specs.Moments.{known_drops}
 use Rattle.pipe_model.specs.Sender.{sender_calls}
 use Rattle.pipe_reorder.specs.Buffer.{passed_by}
 use Rattle.pipe_route.specs.Routing.{Routing}
 use Rattle.pipe_host.specs.Buffers.{logged_by}
 use Rattle.pipe_host.specs.Host.{Stands, Works}
 use Rattle.pipe_host.specs.Steps.{ticked}
-use Rattle.pipe_host.proofs.HostSteps.{ticks}
-use Rattle.pipe_host.proofs.RecordLaws.{still_buffers}
+use Rattle.pipe_host.proofs.HostSteps.{still_ready, ticks}
 use Rattle.pipe_host.proofs.host.Host.work_tick.Goals as goal
 
 pub returns : goal.returns
@@ -45,6 +46,7 @@ returns c =
     let log : List (Service × Entry) = c.copy_passed.new.out in
     let n : ℕ = c.next-next.result.0 in
     let calls : List SenderCall = sender_calls graph node.0 own in
+    let known : List LinkId = known_drops own in
     let f : Fields = record { be = n; commit = promise_of n calls } in
     let src : HostId = record { 0 = c.node.result.0 } in
     let src_is : src ≡ record { 0 = node.0 } = ap {B = HostId} (λ (m : NodeId). record { 0 = m.0 }) c.node.ensures ∙ ap {B = HostId} (λ (m : ℕ). record { 0 = m }) stands.links_are.node_is in
@@ -58,31 +60,22 @@ returns c =
     let clock_is : n ≡ next_after (next own) c.args.now.0 None log = omega (arith, delivered, told, c.tick.ensures, stands.next_is) in
     let base : Step = record (quiet_step Ok) { downed = marks; control = tells; logged = log } in
     let again : HostId → List Packet = λ host. resends calls host f in
-    let resent : c.resends.new.step ≡ with_ways (route graph [] node.0) (again (record { 0 = node.0 })) base =
+    let resent : c.resends.new.step ≡ with_ways (route graph known node.0) (again (record { 0 = node.0 })) base =
     c.in_ok-resends.ensures.stands calls stands.sender_is
     ∙ ap (λ (s : Step). with_ways (picked c.routes-routes.result.now.links) (again src) (record s { downed = marks; control = tells; logged = log })) c.new-step.ensures
     ∙ ap (λ (routes : Routing). with_ways (picked routes.links) (again src) base) c.routes-routes.ensures
-    ∙ ways_are graph node.0 k.links.routes (again src) base stands.links_are.routes_are
-    ∙ ap (λ (host : HostId). with_ways (route graph [] node.0) (again host) base) src_is in
-    let step_is : kept ≡ with_beacons k.links.outs f (with_ways (route graph [] node.0) (again (record { 0 = node.0 })) base) =
+    ∙ ways_are graph node.0 known k.links.ways.routes (again src) base stands.links_are.ways_are.routes_are
+    ∙ ap (λ (host : HostId). with_ways (route graph known node.0) (again host) base) src_is in
+    let step_is : kept ≡ with_beacons k.links.ways.outs f (with_ways (route graph known node.0) (again (record { 0 = node.0 })) base) =
     is ∙ c.in_ok-put_beacons.ensures.ok
-    ∙ ap {B = Step} (λ (m : ℕ). with_beacons k.links.outs (record { be = n; commit = m }) c.resends.new.step) (c.promise-promise.ensures.stands calls stands.sender_is)
-    ∙ ap (with_beacons k.links.outs f) resent in
+    ∙ ap {B = Step} (λ (m : ℕ). with_beacons k.links.ways.outs (record { be = n; commit = m }) c.resends.new.step) (c.promise-promise.ensures.stands calls stands.sender_is)
+    ∙ ap (with_beacons k.links.ways.outs f) resent in
     record {
       rules = ticks graph node own c.args.now marks tells b n k kept stands
-          (c.in_ok-step.ensures graph node.0 own stands.links_are) (c.in_ok-step-2.ensures graph node.0 own stands.links_are) (c.in_ok-barriers.ensures graph node.0 own stands.links_are)
+          (c.in_ok-step.ensures graph node.0 own stands.links_are) (c.in_ok-step-2.ensures graph node.0 own stands) (c.in_ok-barriers.ensures graph node.0 own stands.links_are)
           (clock_is ∙ ap (next_after (next own) c.args.now.0 None) log_is) f (λ i. f)
-          (step_is ∙ ap (λ (ls : List LinkId). with_beacons ls f (with_ways (route graph [] node.0) (again (record { 0 = node.0 })) base)) stands.links_are.outs_are
-          ∙ ap (λ (es : List (Service × Entry)). with_beacons (outs_of graph node.0) f (with_ways (route graph [] node.0) (again (record { 0 = node.0 })) (record (quiet_step Ok) { downed = marks; control = tells; logged = es }))) log_is);
-      stands = record {
-        holds = record {
-          host = stands.host;
-          links_are = stands.links_are;
-          next_is = stands.next_is;
-          held_are = stands.held_are ∙ sym (still_buffers graph node.0 own (ticked node c.args.now kept) refl (ap (λ (s : Step). s.noted) step_is));
-          sender_is = stands.sender_is;
-        };
-        receiver = tt;
-      };
+          (step_is ∙ ap (λ (ls : List LinkId). with_beacons ls f (with_ways (route graph known node.0) (again (record { 0 = node.0 })) base)) stands.links_are.ways_are.outs_are
+          ∙ ap (λ (es : List (Service × Entry)). with_beacons (outs_left graph node.0 known) f (with_ways (route graph known node.0) (again (record { 0 = node.0 })) (record (quiet_step Ok) { downed = marks; control = tells; logged = es }))) log_is);
+      stands = still_ready graph node.0 own (ticked node c.args.now kept) k stands tt refl (ap (λ (s : Step). s.noted) step_is) (ap (λ (s : Step). s.dropped) step_is) stands.sender_is tt;
     })
     c.keep.ensures

@@ -6,5 +6,5 @@ use Rattle.pipe_relsend.proofs.sender.Sender.ack.Goals as goal
 
 pub returns-clause-stands : goal.returns-clause-stands
 returns-clause-stands c = λ calls stands.
-    subst (Stands (Acked c.args.ts.0 c.args.host.0 ∷ calls)) (sym (c.ack_among.ensures.items ∙ ap (after_ack c.args.ts.0 c.args.host.0) c.self.view_is))
+    subst (Stands (Acked c.args.ts.0 c.args.host.0 ∷ calls)) (sym (c.answer_among.ensures.items ∙ ap (after_ack c.args.ts.0 c.args.host.0) c.self.view_is))
     (stands_acked calls c.args.self.now c.args.ts.0 c.args.host.0 stands)

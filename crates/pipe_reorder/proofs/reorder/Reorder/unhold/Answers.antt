@@ -16,7 +16,7 @@ left b entries k inside view_is is =
 
 pub returns-clause-removes : goal.returns-clause-removes
 returns-clause-removes c =
-    left c.args.self.now c.remove.new.self.entries c.args.key (buffer_of c.self.inside.service c.self.inside.barrier c.self.inside.failed c.self.inside.held.entries) c.self.view_is
+    left c.args.self.now c.remove.new.self.entries c.args.key (buffer_of c.self.inside.service c.self.inside.barrier c.self.inside.failed c.self.inside.tombstones.keys c.self.inside.newest c.self.inside.held.entries) c.self.view_is
     (c.remove.ensures.entries ∙ removed_is c.args.key c.self.inside.held.entries c.self.invariant)
 
 pub returns-clause-undoes : goal.returns-clause-undoes

@@ -9,12 +9,15 @@ use Rattle.pipe_switch.proofs.half.Half.control.Goals as goal
 
 -- the place and what is kept make no difference to what the half keeps
 pub returns-clause-ok : goal.returns-clause-ok
-returns-clause-ok c = λ graph node own place keep stands.
+returns-clause-ok c = λ node own place keep stands.
+    let graph = c.args.topology.now in
     let made : NodeId → Record = λ (n : NodeId). told n c.args.control 0 false c.in_ok-worked.worked in
-    let me_is : c.node.result ≡ node = c.node.ensures ∙ (λ i. record { 0 = stands.links_are.node_is i }) in
-    let rules = c.in_ok-worked.ensures graph node own place keep stands in
+    let works = c.in_ok-worked.ensures.ok node own 0 false stands in
+    let me_is : c.node.result ≡ node = c.node.ensures ∙ (λ i. record { 0 = works.stands.links_are.stands.node_is i }) in
+    let rules = (c.in_ok-worked.ensures.ok node own place keep stands).rules in
     let follows = subst (λ (n : NodeId). links.Stands graph node.0 (made n ∷ own) c.follow.new.self) me_is
-    (c.follow.ensures graph node.0 own stands.links_are tt (subst (λ (n : NodeId). IsNodeStep graph node.0 own (made n)) (sym me_is) (c.in_ok-worked.ensures graph node own 0 false stands))) in
+    (c.follow.ensures graph node.0 own (subst (λ (n : NodeId). links.StandsWith graph node.0 own (made n) c.work_control.new.self.links) (sym me_is) works.stands.links_are) tt
+    (subst (λ (n : NodeId). IsNodeStep graph node.0 own (made n)) (sym me_is) works.rules)) in
     subst (λ (s : Step). Does graph node.0 own (told node c.args.control place keep s) (record c.args.self.now { links = c.follow.new.self })) (sym c.into_step.ensures)
     (record {
       rules = rules;
@@ -22,10 +25,10 @@ returns-clause-ok c = λ graph node own place keep stands.
         half = stands.half;
         links_are = record {
           node_is = follows.node_is;
-          outs_are = follows.outs_are;
-          routes_are = follows.routes_are;
+          within = follows.within;
           ins_are = follows.ins_are;
-          no_drops = follows.no_drops;
+          ways_are = follows.ways_are;
+          none_ahead = follows.none_ahead;
           history = (stands.links_are.history, rules);
         };
       };

@@ -6,8 +6,9 @@ use Rattle.pipe_switch.proofs.half.Half.take.Goals as goal
 -- the place and what is kept make no difference to what the half keeps
 pub returns-clause-ok : goal.returns-clause-ok
 returns-clause-ok c = λ graph node own place keep stands comes.
-    let after = c.follow.ensures graph node own stands.links_are comes (c.in_ok-work_take.ensures graph node own 0 false stands comes) in
-    let rules = c.in_ok-work_take.ensures graph node own place keep stands comes in
+    let works = c.in_ok-work_take.ensures graph node own 0 false stands comes in
+    let after = c.follow.ensures graph node own works.stands.links_are comes works.rules in
+    let rules = (c.in_ok-work_take.ensures graph node own place keep stands comes).rules in
     subst (λ (s : Step). Does graph node own (taken c.args.link c.args.packet place keep s) (record c.args.self.now { links = c.follow.new.self })) (sym c.into_step.ensures)
     (record {
       rules = rules;
@@ -15,10 +16,10 @@ returns-clause-ok c = λ graph node own place keep stands comes.
         half = stands.half;
         links_are = record {
           node_is = after.node_is;
-          outs_are = after.outs_are;
-          routes_are = after.routes_are;
+          within = after.within;
           ins_are = after.ins_are;
-          no_drops = after.no_drops;
+          ways_are = after.ways_are;
+          none_ahead = after.none_ahead;
           history = (stands.links_are.history, rules);
         };
       };

@@ -5,6 +5,7 @@ use Rattle.pipe_base.specs.declared.step.Outcome.TheVariants.{Ok}
 use Rattle.pipe_base.specs.declared.step.Step.{Step}
 use Rattle.pipe_base.specs.Graph.{Graph, is_host}
 use Rattle.pipe_base.specs.Step.{quiet_step}
+use Rattle.pipe_links.proofs.Follows.{ready as links_ready}
 use Rattle.pipe_model.specs.declared.record.Record.{Record}
 use Rattle.pipe_model.specs.Run.{IsNodeStep}
 use Rattle.pipe_host.proofs.RecordLaws.{still_buffers, still_fate, still_logged}
@@ -37,17 +38,18 @@ crashes graph node own =
 
 ready : (graph : Graph) (node : NodeId) (own : List Record) (k : Node) → Stands graph node.0 own k → StandsWith graph node.0 own (crashed node (quiet_step Ok)) k
 ready graph node own (Host h) stands =
+    let r : Record = crashed node (quiet_step Ok) in
     record {
-      holds = record {
-        host = stands.host;
-        links_are = stands.links_are;
-        next_is = stands.next_is;
-        held_are = stands.held_are ∙ sym (still_buffers graph node.0 own (crashed node (quiet_step Ok)) refl refl);
-        sender_is = stands.sender_is;
-      };
+      host = stands.host;
+      links_are = links_ready graph node.0 own r h.links stands.links_are (crashes graph node own) refl;
+      taking = tt;
+      next_is = stands.next_is;
+      held_are = stands.held_are ∙ sym (still_buffers graph node.0 own r refl refl);
+      sender_is = stands.sender_is;
       receiver = tt;
     }
-ready graph node own (Half h) stands = stands
+ready graph node own (Half h) stands =
+    record { half = stands.half; links_are = links_ready graph node.0 own (crashed node (quiet_step Ok)) h.links stands.links_are (crashes graph node own) refl }
 
 pub returns : goal.returns
 returns c = λ graph node own stands.

@@ -6,7 +6,6 @@ use Rattle.pipe_base.specs.Moment.{has_link}
 use Rattle.pipe_host.specs.Host as host
 use Rattle.pipe_host.specs.Steps.{taken}
 use Rattle.pipe_model.specs.declared.record.Record.{Record}
-use Rattle.pipe_model.specs.Run.{IsNodeStep}
 use Rattle.pipe_switch.specs.Half as half
 use Rattle.pipe_world.specs.declared.node.Node.{Node}
 use Rattle.pipe_world.specs.declared.node.Node.TheVariants.{Host, Half}
@@ -33,10 +32,10 @@ returns-in-Half-clause-ok c =
     let p = c.args.packet.now in
     IfOk-weaker c.work_take-in-Half.result
     (λ (step : Step). (graph : Graph) (node : ℕ) (own : List Record) (place : ℕ) (keep : Bool) → half.Stands graph node own c.in-Half.half
-    → has_link link.0 (ins_of graph node) ≡ true → IsNodeStep graph node own (taken link p place keep step))
+    → has_link link.0 (ins_of graph node) ≡ true → half.Works graph node own (taken link p place keep step) c.in-Half.half)
     (λ (step : Step). (graph : Graph) (node : ℕ) (own : List Record) (place : ℕ) (keep : Bool) → Stands graph node own c.args.self.now
     → has_link link.0 (ins_of graph node) ≡ true → Works graph node own (taken link p place keep step) (Half c.in-Half.half))
     (λ step works graph node own place keep stands comes.
-    let kept = subst (λ (k : Node). Stands graph node own k) c.in-Half.is stands in
-    record { rules = works graph node own place keep kept comes; stands = kept })
+    let done = works graph node own place keep (subst (λ (k : Node). Stands graph node own k) c.in-Half.is stands) comes in
+    record { rules = done.rules; stands = done.stands })
     c.work_take-in-Half.ensures

@@ -8,8 +8,9 @@ use Rattle.pipe_model_atomic.proofs.AllOrNone.{all_or_none}
 use Rattle.pipe_model_atomic.proofs.LateMessage.{none_late}
 use Rattle.pipe_model_net.proofs.Genuine.{run_genuine}
 use Rattle.pipe_model_net.proofs.NeverLate.{never_late}
+use Rattle.pipe_world.specs.OnTime.{IsLoggedOnTime}
 use Rattle.pipe_world.specs.World.{GraphAndTrace}
-use Rattle.pipe_world.proofs.RunLaws.{run_ordered, run_causal}
+use Rattle.pipe_world.proofs.RunLaws.{run_ordered, run_causal, run_on_time}
 use Rattle.pipe_world.proofs.world.World.into_trace.Goals as goal
 
 pub returns-clause-ordered : goal.returns-clause-ordered
@@ -46,3 +47,9 @@ returns-clause-none_late c =
     subst (λ (v : GraphAndTrace). IsNoneLateOfItself v.graph (reverse c.into_trace.result)) c.self.view_is
     (subst (λ (t : List Record). IsNoneLateOfItself c.self.inside.topology (reverse t)) (sym c.into_trace.ensures.trace)
     (none_late c.self.inside.topology (reverse c.self.inside.history) c.self.invariant.keeps.joined c.self.invariant.keeps.rules c.self.invariant.keeps.names))
+
+pub returns-clause-on_time : goal.returns-clause-on_time
+returns-clause-on_time c =
+    subst (λ (v : GraphAndTrace). IsLoggedOnTime v.graph (reverse c.into_trace.result)) c.self.view_is
+    (subst (λ (t : List Record). IsLoggedOnTime c.self.inside.topology (reverse t)) (sym c.into_trace.ensures.trace)
+    (run_on_time c.self.inside.topology (reverse c.self.inside.history) c.self.invariant.keeps.rules))

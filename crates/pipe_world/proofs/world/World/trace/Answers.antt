@@ -8,8 +8,9 @@ use Rattle.pipe_model_atomic.proofs.AllOrNone.{all_or_none}
 use Rattle.pipe_model_atomic.proofs.LateMessage.{none_late}
 use Rattle.pipe_model_net.proofs.Genuine.{run_genuine}
 use Rattle.pipe_model_net.proofs.NeverLate.{never_late}
+use Rattle.pipe_world.specs.OnTime.{IsLoggedOnTime}
 use Rattle.pipe_world.specs.World.{GraphAndTrace}
-use Rattle.pipe_world.proofs.RunLaws.{run_ordered, run_causal}
+use Rattle.pipe_world.proofs.RunLaws.{run_ordered, run_causal, run_on_time}
 use Rattle.pipe_world.proofs.world.World.trace.Goals as goal
 
 pub returns-clause-ordered : goal.returns-clause-ordered
@@ -44,3 +45,8 @@ pub returns-clause-none_late : goal.returns-clause-none_late
 returns-clause-none_late c =
     subst (λ (v : GraphAndTrace). IsNoneLateOfItself v.graph (reverse v.trace)) c.self.view_is
     (none_late c.self.inside.topology (reverse c.self.inside.history) c.self.invariant.keeps.joined c.self.invariant.keeps.rules c.self.invariant.keeps.names)
+
+pub returns-clause-on_time : goal.returns-clause-on_time
+returns-clause-on_time c =
+    subst (λ (v : GraphAndTrace). IsLoggedOnTime v.graph (reverse v.trace)) c.self.view_is
+    (run_on_time c.self.inside.topology (reverse c.self.inside.history) c.self.invariant.keeps.rules)
