@@ -12,8 +12,8 @@ use Rattle.pipe_base.specs.Graph.{Graph, is_host}
 use Rattle.pipe_base.specs.Reported.{unreported}
 
 -- Sets of hosts and links are tests on their numbers. A live link is one that is not known as dead; a report is the value of a
--- link that went down. The lists are in the order of the decisions. Of
--- each host is kept how many announced hosts it said that it noted, of each node how many dropped links it said that it knows.
+-- link that went down. The lists are in the order of the decisions. Of each host is kept how many announced hosts it said that
+-- it noted, of each node how many dropped links it said that it knows.
 pub record View : Type 0 where
   pub members : ℕ → Bool
   pub live : ℕ → Bool

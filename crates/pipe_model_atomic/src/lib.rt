@@ -68,7 +68,7 @@ pub fn every_run_is_all_or_none()
 {}
 
 /// In every run of events of such a network no reliable message is late of itself: one that comes late at a correct host was
-/// held there before, or its sender is noted there as failed by then.
+/// held there before, or was taken back there, or its sender is noted there as failed by then.
 pub fn no_reliable_message_is_late_of_itself()
     ensures { (graph : Graph) (past : List Record) → JoinsAllHosts graph → IsHistory graph past → AreOfGraph graph past → IsNoneLateOfItself graph past }
 {}
