@@ -119,20 +119,6 @@ static RECALLS: [Played; 15] = [
     (Call::Note(3), 0, 99, 0, false),
 ];
 
-// What the sender will promise after an answer is known before.
-fn foretells(sender: &Sender, call: Call, promise: u64) -> bool {
-    match call {
-        Call::Ack(ts, host) => sender.promise_after_ack(Ts(ts), HostId(host), NEXT).0 == promise,
-        Call::RecallAck(ts, host) => {
-            sender
-                .promise_after_recall_ack(Ts(ts), HostId(host), NEXT)
-                .0
-                == promise
-        }
-        Call::Begin(_, _, _) | Call::Note(_) => true,
-    }
-}
-
 fn owed(alloc: Global, sender: &Sender) -> Result<u32, NoMemory> {
     let mut step = Step::new(alloc);
     sender.resends(HostId(0), NEXT, &NoWay, &mut step)?;
@@ -146,7 +132,6 @@ fn make_all(
     calls: &[Played],
 ) -> Result<(), NoMemory> {
     for (call, unsettled, promise, count, recalling) in calls {
-        assert!(rt; foretells(sender, *call, *promise));
         assert!(rt; make(alloc, sender, *call)?);
         assert!(rt; sender.unsettled() == *unsettled && sender.promise(NEXT).0 == *promise);
         assert!(rt; owed(alloc, sender)? == *count && sender.is_recalling() == *recalling);

@@ -147,14 +147,6 @@ impl Preparing {
         }
     }
 
-    /// Whether an acknowledgement of this host would leave some receiver without one.
-    pub(crate) fn stays(&self, host: HostId) -> bool
-        ensures { result ≡ is_open (with_mark host.0 self.now) }
-    {
-        let marks = marks::with_mark(self.dests.as_slice(), self.marks, host);
-        marks::is_open(marks, self.dests.len())
-    }
-
     /// Puts the message again to each receiver that has not acknowledged it.
     pub(crate) fn resend<R: Router>(
         &self,
@@ -264,14 +256,6 @@ impl Recalling {
         } else {
             RecallStep::Gone(Aborted { ts, dests })
         }
-    }
-
-    /// Whether some receiver is waited for after this host told that it took the scattering back.
-    pub(crate) fn stays(&self, host: HostId) -> bool
-        ensures { result ≡ is_open (with_mark host.0 self.now) }
-    {
-        let marks = marks::with_mark(self.dests.as_slice(), self.marks, host);
-        marks::is_open(marks, self.dests.len())
     }
 
     /// Puts a recall to each receiver that is waited for.

@@ -21,10 +21,9 @@ use std::marker::Model;
 
 /// The reliable scatterings that are not settled, in the order begun. Room for as many as there may be is taken at the start.
 ///
-/// A host asks first what a step would lead to (`promise`, `promise_after_ack`, `promise_after_recall_ack`, `resends`), which
-/// changes nothing. A scattering
-/// that was begun for a step that is refused is taken back by `unbegin`. Otherwise a scattering leaves by being settled alone;
-/// where the sender itself is dropped, those that it still has end with it.
+/// A host asks first what it promises and puts again (`promise`, `resends`), which changes nothing. A scattering that was begun
+/// for a step that is refused is undone by `unbegin`. Otherwise a scattering leaves by being settled alone; where the sender
+/// itself is dropped, those that it still has end with it.
 pub struct Sender {
     alloc: Global,
     pending: Vec<Unsettled>,
@@ -91,7 +90,7 @@ impl Sender {
         Ok(())
     }
 
-    /// Takes back the scattering that was begun last: the way back from a `begin` for a step that is refused. Takes no memory.
+    /// Undoes the last `begin`, for a step that is refused. Takes no memory.
     pub fn unbegin(&mut self)
         ensures undoes { (before : List Pending) (last : Pending) → self.old ≡ before ++ last ∷ [] → self.new ≡ before }
         ensures stands { (calls : List SenderCall) (s : Scattering) → Stands (Began s ∷ calls) self.old → 0 < length s.dests → Stands calls self.new }
@@ -109,7 +108,8 @@ impl Sender {
         answer_among(&mut self.pending, Answer::Ack, ts, host);
     }
 
-    /// A host has told that it took the scattering with this timestamp back, which counts where that is recalled. Takes no memory.
+    /// A host has told that it took the scattering with this timestamp back, which counts where that is recalled. Takes no
+    /// memory.
     pub fn recall_ack(&mut self, ts: Ts, host: HostId)
         ensures value { self.new ≡ after_recall_ack ts.0 host.0 self.old }
         ensures stands { (calls : List SenderCall) → Stands calls self.old → Stands (RecallAcked ts.0 host.0 ∷ calls) self.new }
@@ -135,22 +135,6 @@ impl Sender {
             → s.ts ≡ next → (later : ℕ) → result.0 ≡ promise_of later (Began s ∷ calls) }
     {
         first_ts(self.pending.as_slice(), next)
-    }
-
-    /// The promise after an acknowledgement that is not taken over yet. Takes no memory.
-    pub fn promise_after_ack(&self, ts: Ts, host: HostId, next: Ts) -> Ts
-        ensures value { result.0 ≡ first_or next.0 (after_ack ts.0 host.0 self.now) }
-        ensures stands { (calls : List SenderCall) → Stands calls self.now → result.0 ≡ promise_of next.0 (Acked ts.0 host.0 ∷ calls) }
-    {
-        first_ts_after(self.pending.as_slice(), Answer::Ack, ts, host, next)
-    }
-
-    /// The promise after a host told that it took a scattering back, which is not taken over yet. Takes no memory.
-    pub fn promise_after_recall_ack(&self, ts: Ts, host: HostId, next: Ts) -> Ts
-        ensures value { result.0 ≡ first_or next.0 (after_recall_ack ts.0 host.0 self.now) }
-        ensures stands { (calls : List SenderCall) → Stands calls self.now → result.0 ≡ promise_of next.0 (RecallAcked ts.0 host.0 ∷ calls) }
-    {
-        first_ts_after(self.pending.as_slice(), Answer::RecallAck, ts, host, next)
     }
 
     /// Whether some scattering is recalled and waits for a receiver.
@@ -228,20 +212,6 @@ fn first_ts(pending: &[Unsettled], next: Ts) -> Ts
     match pending.first() {
         Some(first) => first.ts(),
         None => next,
-    }
-}
-
-/// The first timestamp after an answer.
-fn first_ts_after(pending: &[Unsettled], answer: Answer, ts: Ts, host: HostId, next: Ts) -> Ts
-    ensures { result.0 ≡ first_or next.0 (answered answer ts.0 host.0 pending.now) }
-{
-    let Some((first, rest)) = pending.split_first() else {
-        return next;
-    };
-    if first.ts().0 == ts.0 && !first.stays(answer, host) {
-        first_ts(rest, next)
-    } else {
-        first.ts()
     }
 }
 

@@ -83,17 +83,6 @@ impl Unsettled {
         }
     }
 
-    /// Whether an answer of this host would leave it unsettled.
-    pub fn stays(&self, answer: Answer, host: HostId) -> bool
-        ensures { result ≡ is_some (after_answer answer host.0 self.now) }
-    {
-        match (&self.state, answer) {
-            (State::Preparing(preparing), Answer::Ack) => preparing.stays(host),
-            (State::Recalling(recalling), Answer::RecallAck) => recalling.stays(host),
-            _ => true,
-        }
-    }
-
     /// The scattering as these failed hosts are noted, unless it is settled by that.
     pub fn note(self, noted: &Noted) -> Option<Unsettled>
         ensures { result ≡ after_note noted.now self }

@@ -38,13 +38,6 @@ impl Reports {
         self.values[usize::from(link.0)] = Some(value);
     }
 
-    pub fn clear(&mut self, link: LinkId)
-        requires { link.0 < length self.old }
-        ensures { self.new ≡ slice_set self.old link.0 None }
-    {
-        self.values[usize::from(link.0)] = None;
-    }
-
     pub fn value(&self, link: LinkId) -> Option<Ts>
         requires { link.0 < length self.now }
         ensures { result ≡ report_of self.now link.0 }
