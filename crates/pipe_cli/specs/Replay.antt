@@ -16,7 +16,7 @@ use Rattle.pipe_text_input.specs.Content.{Content}
 use Rattle.pipe_text_log.specs.LogText.{log_text}
 use Rattle.pipe_text_trace.specs.TraceText.{trace_text}
 use Rattle.pipe_topo.specs.Plan.{graph_of}
-use Rattle.pipe_world.specs.OnTime.{IsLoggedOnTime}
+use Rattle.pipe_model.specs.OnTime.{IsLoggedOnTime}
 use Rattle.pipe_cli.specs.declared.status.Status.{Status}
 use Rattle.pipe_cli.specs.declared.status.Status.TheVariants as status
 use Rattle.pipe_cli.specs.declared.words.Form.{Form}

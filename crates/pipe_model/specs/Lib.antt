@@ -19,6 +19,7 @@ pub mod Moments
 pub mod NeverLate
 pub mod NodePromise
 pub mod OnLink
+pub mod OnTime
 pub mod Order
 pub mod Outcome
 pub mod OwnOutcome

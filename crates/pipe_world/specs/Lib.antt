@@ -1,7 +1,6 @@
 pub mod Decision
 pub mod History
 pub mod Node
-pub mod OnTime
 pub mod Queues
 pub mod Turn
 pub mod World

@@ -8,7 +8,7 @@ use Rattle.pipe_model_atomic.proofs.AllOrNone.{all_or_none}
 use Rattle.pipe_model_atomic.proofs.LateMessage.{none_late}
 use Rattle.pipe_model_net.proofs.Genuine.{run_genuine}
 use Rattle.pipe_model_net.proofs.NeverLate.{never_late}
-use Rattle.pipe_world.specs.OnTime.{IsLoggedOnTime}
+use Rattle.pipe_model.specs.OnTime.{IsLoggedOnTime}
 use Rattle.pipe_world.specs.World.{GraphAndTrace}
 use Rattle.pipe_world.proofs.RunLaws.{run_ordered, run_causal, run_on_time}
 use Rattle.pipe_world.proofs.world.World.trace.Goals as goal
