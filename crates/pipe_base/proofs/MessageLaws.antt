@@ -1,5 +1,5 @@
 -- Laws of messages in the total order: what a barrier leaves of them, and how a key is found, put and taken out.
-use Rattle.std.proofs.Common.{◌≡◌, ◌⊎◌, ℕ, ◌<◌, ◌≤◌, ◌==◌, ◌||◌, not, Bool, true, false, cond, nat_lt, nat_le, List, [], ◌∷◌, ◌++◌, filter, All, is_some, Some, refl, inl, inr, ⊎_elim, sym, subst, ap, ap₂, ◌∙◌, le_trans, arith, eqb-true, ne_eqb, le-leb, leb-true, leb-false, ltb-true, lt-ltb, le-ltb}
+use Rattle.std.proofs.Common.{◌≡◌, ℕ, ◌<◌, ◌≤◌, ◌==◌, ◌||◌, not, Bool, true, false, cond, nat_lt, nat_le, List, [], ◌∷◌, ◌++◌, filter, All, is_some, Some, refl, inl, inr, ⊎_elim, sym, subst, ap, ap₂, ◌∙◌, le_trans, arith, eqb-true, ne_eqb, le-leb, leb-true, leb-false, ltb-true, lt-ltb, le-ltb}
 use Rattle.std.proofs.lemmas.Bool.{lt-leb, cases_lt, and_parts, and_from, and_left, and_right, or_parts, not_from_true, not_from_false, both_ways}
 use Rattle.std.proofs.lemmas.Bool.Decides.{nat_tests}
 use Rattle.std.specs.List.{AllByRecursion}

@@ -3,7 +3,7 @@ use Rattle.std.specs.Prelude.{◌≡◌, ◌⊎◌, ℕ, ◌<◌, ◌≤◌, ◌
 use Rattle.pipe_base.specs.declared.name.LinkId.{LinkId}
 use Rattle.pipe_base.specs.declared.packet.Plane.{Plane}
 use Rattle.pipe_base.specs.declared.packet.Plane.TheVariants.{BestEffort, Commit}
-use Rattle.pipe_base.specs.Moment.{Moment, Received, Counted, WentDown, Dropped, in_use}
+use Rattle.pipe_base.specs.Moment.{Moment, Received, Counted, in_use}
 
 -- the field of a packet that belongs to the plane
 abbrev pub field_of : Plane → ℕ → ℕ → ℕ

@@ -2,7 +2,7 @@
 
 use crate::{HostId, LinkId, List, NoMemory, NodeId, Ts};
 
-/// A failed host, and the time from which its messages are discarded.
+/// A failed host, and the time from which its reliable messages are discarded.
 #[derive(Clone, Copy, Debug, PartialEq, Eq)]
 pub struct Announced {
     pub host: HostId,
@@ -27,7 +27,7 @@ pub enum To {
 pub enum Control {
     /// To the controller: this link went down with this commit register.
     Down { link: LinkId, value: Ts },
-    /// To a node: this link is down.
+    /// To a node: take this link down.
     Freeze { link: LinkId },
     /// To a host: these hosts have failed.
     Notice { list: AnnouncedList },

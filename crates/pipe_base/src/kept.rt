@@ -1,23 +1,67 @@
 // A step as a record keeps it: most steps do one thing, and take the room of that.
-ghost use Rattle.std.specs.Prelude.{◌≡◌, IfOk, true, Some};
+ghost use Rattle.std.specs.Prelude.{◌≡◌, IfOk, true, Some, [], ◌∷◌};
+ghost use Rattle.pipe_base.specs.Kept.{step_of};
+ghost use Rattle.pipe_base.specs.ShortestRoute.{picked};
 ghost use Rattle.pipe_base.specs.Step.{quiet_step};
+ghost use Rattle.pipe_base.specs.Ways.{with_ways};
 
 use crate::step::{copy_entries, copy_puts};
 use crate::{
-    Addressed, Announced, Entry, Fate, LinkId, LoggedList, NoMemory, Outcome, Packet, PutList,
-    Service, Step, Ts,
+    Addressed, Announced, Entry, Fate, LinkId, List, LoggedList, NoMemory, Outcome, Packet,
+    PutList, Router, Service, Step, Ts,
 };
 use std::alloc::Global;
 use std::marker::Model;
+use std::slice;
 
-// What a step did besides nothing. A form without an outcome has the outcome `Ok`.
+// What a step did. What a form leaves out did not happen, and a form without an outcome has the outcome `Ok`.
 #[derive(Debug, Drop)]
 enum Form {
     Quiet(Outcome),
-    Puts { stamped: Option<Ts>, put: PutList },
+    PutsOne {
+        stamped: Option<Ts>,
+        put: (LinkId, Packet),
+    },
+    Puts {
+        stamped: Option<Ts>,
+        put: PutList,
+    },
     Fated(Fate),
     Logs(LoggedList),
     Whole(Box<Step>),
+}
+
+/// Room for one packet in a list. It is taken before a step that is to be told in lists.
+#[derive(Debug, Drop)]
+pub struct PutRoom {
+    list: Vec<(LinkId, Packet)>,
+}
+
+impl Model for PutRoom {
+    ghost use Rattle.std.specs.Prelude.{◌<◌, ◌≡◌, vec_capacity, vec_len};
+
+    ghost Value = { Unit {0} };
+
+    ghost view = { λ r. tt };
+
+    ghost invariant = { λ r. (vec_len r.list ≡ 0) × (0 < vec_capacity r.list) };
+}
+
+impl PutRoom {
+    pub fn new(alloc: Global) -> Result<PutRoom, NoMemory> {
+        Ok(PutRoom {
+            list: Vec::with_capacity(alloc, 1)?,
+        })
+    }
+
+    // The list of the packet. Takes no memory.
+    fn of(self, put: (LinkId, Packet)) -> PutList
+        ensures { result ≡ put ∷ [] }
+    {
+        let PutRoom { mut list } = self;
+        list.push_reserved(put);
+        List::from_vec(list)
+    }
 }
 
 /// A step that is over, in little memory.
@@ -46,10 +90,45 @@ impl KeptStep {
         }
     }
 
+    /// The step that did nothing but that a message had its fate, if it had one. Takes no memory.
+    pub fn fated(fate: Option<Fate>) -> KeptStep
+        ensures { result ≡ record (quiet_step Outcome.Ok) { fate = fate } }
+    {
+        let form = match fate {
+            None => Form::Quiet(Outcome::Ok),
+            Some(fate) => Form::Fated(fate),
+        };
+        KeptStep { form }
+    }
+
+    /// The step that puts a packet on its way alone, or counts it where it has none.
+    pub fn on_way<R: Router>(
+        alloc: Global,
+        routes: &R,
+        packet: Packet,
+    ) -> Result<KeptStep, NoMemory>
+        ensures { IfOk result (λ kept. kept ≡ with_ways (picked (R.links routes.now)) (packet ∷ []) (quiet_step Outcome.Ok)) }
+    {
+        match routes.pick(packet.src, packet.dst) {
+            Some(link) => Ok(KeptStep {
+                form: Form::PutsOne {
+                    stamped: None,
+                    put: (link, packet),
+                },
+            }),
+            None => {
+                let mut step = Step::new(alloc);
+                step.unrouted = 1;
+                step.keep(alloc)
+            }
+        }
+    }
+
     pub fn put(&self) -> &[(LinkId, Packet)]
         ensures { result.now ≡ self.now.put }
     {
         match &self.form {
+            Form::PutsOne { put, .. } => slice::from_ref(put),
             Form::Puts { put, .. } => put.as_slice(),
             Form::Whole(step) => step.put.as_slice(),
             _ => &[],
@@ -87,7 +166,7 @@ impl KeptStep {
         ensures { result ≡ self.now.stamped }
     {
         match &self.form {
-            Form::Puts { stamped, .. } => *stamped,
+            Form::PutsOne { stamped, .. } | Form::Puts { stamped, .. } => *stamped,
             Form::Whole(step) => step.stamped,
             _ => None,
         }
@@ -141,13 +220,17 @@ impl KeptStep {
         }
     }
 
-    /// The step with its lists at hand. Takes no memory.
-    pub fn into_step(self, alloc: Global) -> Step
+    /// The step with its lists at hand, for which there is room. Takes no memory.
+    pub fn into_step(self, alloc: Global, room: PutRoom) -> Step
         ensures { result ≡ self }
     {
         let mut step = Step::new(alloc);
         match self.form {
             Form::Quiet(outcome) => step.outcome = outcome,
+            Form::PutsOne { stamped, put } => {
+                step.stamped = stamped;
+                step.put = room.of(put);
+            }
             Form::Puts { stamped, put } => {
                 step.stamped = stamped;
                 step.put = put;
@@ -164,6 +247,10 @@ impl KeptStep {
     {
         let form = match &self.form {
             Form::Quiet(outcome) => Form::Quiet(*outcome),
+            Form::PutsOne { stamped, put } => Form::PutsOne {
+                stamped: *stamped,
+                put: (put.0, put.1.try_clone()?),
+            },
             Form::Puts { stamped, put } => Form::Puts {
                 stamped: *stamped,
                 put: copy_puts(put)?,
@@ -177,15 +264,13 @@ impl KeptStep {
 }
 
 impl Step {
-    /// The step as a record keeps it. Takes memory only where the step did several things.
+    /// The step as a record keeps it. Takes no memory where the step put packets alone, logged alone, had a fate alone or did
+    /// nothing.
     pub fn keep(self, alloc: Global) -> Result<KeptStep, NoMemory>
         ensures { IfOk result (λ kept. kept ≡ self) }
     {
         let form = match self.fate {
-            None if self.puts_alone() => Form::Puts {
-                stamped: self.stamped,
-                put: self.put,
-            },
+            None if self.puts_alone() => puts_form(self.stamped, self.put),
             None if self.logs_alone() => Form::Logs(self.logged),
             Some(fate) if self.is_fated_alone() => Form::Fated(fate),
             _ => Form::Whole(Box::new(alloc, self)?),
@@ -224,5 +309,21 @@ impl Step {
             && self.noted.is_empty()
             && self.unrouted == 0
             && matches!(self.outcome, Outcome::Ok)
+    }
+}
+
+// The form of a step that put these packets. One alone takes no list.
+fn puts_form(stamped: Option<Ts>, put: PutList) -> Form
+    ensures { step_of result ≡ record (quiet_step Outcome.Ok) { put = put; stamped = stamped } }
+{
+    let mut put = put.into_vec();
+    if put.len() == 1 {
+        if let Some(put) = put.pop() {
+            return Form::PutsOne { stamped, put };
+        }
+    }
+    Form::Puts {
+        stamped,
+        put: List::from_vec(put),
     }
 }

@@ -21,7 +21,7 @@ mod step;
 pub use body::{BODY_LIMIT, Body, BodyFault};
 pub use control::{Addressed, Announced, AnnouncedList, Control, LinkList, To};
 pub use fault::{Failed, NoMemory, Size};
-pub use kept::KeptStep;
+pub use kept::{KeptStep, PutRoom};
 pub use list::List;
 pub use memory::{MemorySink, MemorySource};
 pub use message::{

@@ -6,8 +6,8 @@ use crate::{Announced, AnnouncedList, HostId, NoMemory, Ts};
 use std::alloc::Global;
 use std::marker::Model;
 
-/// Failed hosts in the order in which a host came to know of them, at most 65,535 entries. The list
-/// only grows, and the first time of a host stands.
+/// Failed hosts in the order in which a host came to know of them, at most 65,535 entries. The
+/// first time of a host stands. `truncate` alone takes entries away, to undo an `adopt`.
 #[derive(Clone, Debug, Drop)]
 pub struct Noted {
     entries: Vec<Announced>,

@@ -5,7 +5,7 @@ use crate::{Body, HostId, NoMemory, Ts};
 /// What a packet is for.
 #[derive(Clone, Copy, Debug, PartialEq, Eq)]
 pub enum PacketKind {
-    /// Carries the barriers of an idle link.
+    /// Carries barriers alone, on each link at each tick.
     Beacon,
     /// A best-effort message.
     Plain,
@@ -22,7 +22,7 @@ pub enum PacketKind {
 /// One of the two barriers that each packet carries.
 #[derive(Clone, Copy, Debug, PartialEq, Eq)]
 pub enum Plane {
-    /// No best-effort message below it comes on this link any more.
+    /// No best-effort message below it comes on this link any more, where the link keeps order.
     BestEffort,
     /// No reliable message below it is undecided.
     Commit,

@@ -1,6 +1,6 @@
 -- That what a host does with a packet, at a tick and with a control message is what it owes.
 use Rattle.std.proofs.Common.{◌≡◌, ℕ, ◌-◌, ◌==◌, ◌&&◌, ◌||◌, not, nat_lt, if◌then◌else◌, Bool, true, false, List, [], ◌∷◌, ◌++◌, length, drop, map, Option, None, Some, refl, sym, subst, ap, ap₂, ◌∙◌, arith, append-nil, add-zero, zero-add, inl, inr}
-use Rattle.std.specs.Prelude.{unwrap_or}
+use Rattle.std.specs.Prelude.{is_some, unwrap_or}
 use Rattle.std.proofs.lemmas.List.{length-append}
 use Rattle.std.proofs.Math.Seq.{drop-append_seam}
 use Rattle.pipe_base.specs.declared.control.Addressed.{Addressed}
@@ -60,7 +60,7 @@ use Rattle.pipe_host.specs.declared.host.Host.{Host}
 use Rattle.pipe_host.specs.declared.buffers.Buffers.{Buffers}
 use Rattle.pipe_host.specs.Buffers.{all_noting, fate_among, last_of, logged_by}
 use Rattle.pipe_host.specs.Host.{HasReceiver, Stands, StandsTaking, StandsWith, buffers_for, buffers_with}
-use Rattle.pipe_host.specs.Steps.{IsObeying, IsReceipt, answers_for, fields_after, taken, ticked, told}
+use Rattle.pipe_host.specs.Steps.{IsObeying, IsReceipt, answers_as, answers_for, fields_after, response, taken, ticked, told}
 use Rattle.pipe_host.proofs.HeldLaws.{Brought, brought}
 use Rattle.pipe_host.proofs.RecordLaws.{fate_with, logs, still_buffers, still_fate, still_logged}
 
@@ -415,3 +415,20 @@ pub answers_put : (way : ℕ → ℕ → Option LinkId) (ps : List Packet) (step
 answers_put way ps step none =
     (λ i. record step { put = sym (append-nil step.put) i; unrouted = sym (add-zero step.unrouted) i })
     ∙ ap (λ (qs : List Packet). with_ways way qs step) none
+
+none_answers : (answer : Option PacketKind) (host : HostId) (f : Fields) (p : Packet) → is_some answer ≡ false → [] ≡ answers_as answer host f p
+none_answers None host f p none = refl
+none_answers (Some kind) host f p none = cc
+
+-- where the barriers pass nothing and the packet is not answered, its fate is all
+pub is_silent : (graph : Graph) (node : ℕ) (own : List Record) (b : Barriers) (k : Host) (fate : Option Fate) (p : Packet) (answer : Option PacketKind) → k.links.node.0 ≡ node
+    → logged_by b k.held ≡ [] → is_some answer ≡ false
+    → ((f : Fields) → answers_as answer (record { 0 = k.links.node.0 }) f p ≡ answers_for (record { 0 = k.links.node.0 }) f fate p)
+    → record (quiet_step Ok) { fate = fate } ≡ response graph node own b k fate p
+is_silent graph node own b k fate p answer node_is none unanswered answers_are =
+    let way : ℕ → ℕ → Option LinkId = route graph (known_drops own) node in
+    let f : Fields = fields_after (logged_by b k.held) k in
+    let no_answer : [] ≡ answers_for (record { 0 = node }) f fate p =
+    none_answers answer (record { 0 = k.links.node.0 }) f p unanswered ∙ answers_are f ∙ ap (λ (n : ℕ). answers_for (record { 0 = n }) f fate p) node_is in
+    answers_put way (answers_for (record { 0 = node }) f fate p) (record (quiet_step Ok) { fate = fate }) no_answer
+    ∙ ap (λ (es : List (Service × Entry)). with_ways way (answers_for (record { 0 = node }) f fate p) (record (quiet_step Ok) { fate = fate; logged = es })) (sym none)

@@ -73,15 +73,19 @@ abbrev pub answers_as : Option PacketKind → HostId → Fields → Packet → L
 answers_as None host f p = []
 answers_as (Some kind) host f p = record (ack_to host f p) { kind = kind } ∷ []
 
--- The step of a received packet with this fate, where what it brings is in the buffers already: what the barriers pass is
--- logged, and the packet is answered.
+-- the step of a received packet that leads to these barriers: what they pass is logged, and the packet is answered
+abbrev pub response : Graph → ℕ → List Record → Barriers → Host → Option Fate → Packet → Step
+response graph node own b k fate p =
+    with_ways (route graph (known_drops own) node) (answers_for (record { 0 = node }) (fields_after (logged_by b k.held) k) fate p)
+    (record (quiet_step Ok) { fate = fate; logged = logged_by b k.held })
+
+-- the step of a received packet with this fate, where what it brings is in the buffers already
 pub record IsReceipt (k : Host) (link : LinkId) (p : Packet) (fate : Option Fate) (step : Step) : Type 0 where
   pub barriers : Barriers
   pub barriers_are : (graph : Graph) (node : ℕ) (own : List Record) → links.Stands graph node own k.links
       → AreBarriers (ins_of graph node) (Received link.0 p.be.0 p.commit.0 ∷ moments_of own) barriers
   pub step_is : (graph : Graph) (node : ℕ) (own : List Record) → links.Stands graph node own k.links
-      → step ≡ with_ways (route graph (known_drops own) node) (answers_for (record { 0 = node }) (fields_after (logged_by barriers k.held) k) fate p)
-      (record (quiet_step Ok) { fate = fate; logged = logged_by barriers k.held })
+      → step ≡ response graph node own barriers k fate p
 
 -- The step of a control message by which so many hosts are noted already, and these links are dropped: what it tells goes down
 -- or is dropped, and what the barriers pass then is logged.

@@ -1,5 +1,5 @@
 // The messages that a host holds, of both services.
-ghost use Rattle.std.specs.Prelude.{◌≡◌, ◌++◌, ◌-◌, ◌^◌, List, Option, Some, length, IfOk, OnErr, OnOk};
+ghost use Rattle.std.specs.Prelude.{◌≡◌, ◌++◌, ◌-◌, ◌^◌, [], List, Option, Some, false, length, IfOk, OnErr, OnOk};
 ghost use Rattle.pipe_base.specs.declared.control.Announced.{Announced};
 ghost use Rattle.pipe_base.specs.declared.message.Service.TheVariants.{BestEffort, Reliable};
 ghost use Rattle.pipe_base.specs.declared.packet.Packet.{Packet as APacket};
@@ -7,7 +7,7 @@ ghost use Rattle.pipe_base.specs.Messages.{AreBelow};
 ghost use Rattle.pipe_model.specs.Marks.{told_hosts};
 ghost use Rattle.pipe_reorder.specs.Buffer.{empty_buffer, passed_by, with_no_buried, with_no_void};
 ghost use Rattle.pipe_host.specs.declared.buffers.Buffers.{Buffers as ABuffers};
-ghost use Rattle.pipe_host.specs.Buffers.{IsFresh, all_burying, all_joined, all_left, all_noting, buffer_of, fate_among, where_mine};
+ghost use Rattle.pipe_host.specs.Buffers.{IsFresh, all_burying, all_joined, all_left, all_noting, buffer_of, fate_among, logged_by, where_mine};
 
 use crate::fates::{self, carries, is_recall, key_of};
 use pipe_barrier::Barriers;
@@ -157,6 +157,13 @@ impl Buffers {
         } else if carries(Service::Reliable, packet.kind) {
             fates::let_go(&mut self.reliable, fate, packet);
         }
+    }
+
+    /// Whether a held message is below the barrier of its service. Where none is, the barriers let nothing out.
+    pub fn has_below(&self, barriers: Barriers) -> bool
+        ensures { result ≡ false → logged_by barriers self.now ≡ [] }
+    {
+        self.best.has_below(barriers.be) || self.reliable.has_below(barriers.commit)
     }
 
     /// Appends the held messages below the barrier of their service that are not void and have no tombstone, best effort first.

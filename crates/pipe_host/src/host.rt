@@ -22,7 +22,7 @@ use crate::times::follow;
 use pipe_barrier::Registers;
 use pipe_base::{
     Addressed, Control, DestList, HostId, LinkId, NoMemory, NodeId, Noted, Outcome, Packet,
-    Service, Step, To, Ts,
+    PutRoom, Service, Step, To, Ts,
 };
 use pipe_clock::HostClock;
 use pipe_links::Links;
@@ -37,8 +37,7 @@ use std::alloc::Global;
 ///
 /// A step goes in two phases, for a caller that may still refuse it: `work_send`, `work_take`, `work_tick` or `work_control`
 /// works it out, and then either `follow` takes its record over or `undo` gives back what was held, noted, begun or set aside
-/// for it.
-/// `send`, `take`, `tick` and `control` are both phases in one call.
+/// for it. `send`, `take`, `tick` and `control` are both phases in one call.
 #[derive(Drop)]
 pub struct Host {
     pub(crate) alloc: Global,
@@ -156,6 +155,7 @@ impl Host {
         ensures err { OnErr result ((self.new ≡ self.old) × (step.new ≡ quiet_step Outcome.Ok)) }
     {
         *step = Step::new(self.alloc);
+        let room = PutRoom::new(self.alloc)?;
         let worked = self.work_send(service, now, &dests)?;
         let record = Record {
             event: Event::Send {
@@ -168,7 +168,7 @@ impl Host {
             step: worked,
         };
         self.follow(&record);
-        *step = record.step.into_step(self.alloc);
+        *step = record.step.into_step(self.alloc, room);
         Ok(())
     }
 
@@ -179,6 +179,7 @@ impl Host {
         ensures err { OnErr result ((self.new ≡ self.old) × (step.new ≡ quiet_step Outcome.Ok)) }
     {
         *step = Step::new(self.alloc);
+        let room = PutRoom::new(self.alloc)?;
         let worked = self.work_take(link, &packet)?;
         let record = Record {
             event: Event::Take {
@@ -190,7 +191,7 @@ impl Host {
             step: worked,
         };
         self.follow(&record);
-        *step = record.step.into_step(self.alloc);
+        *step = record.step.into_step(self.alloc, room);
         Ok(())
     }
 
@@ -201,6 +202,7 @@ impl Host {
         ensures err { OnErr result ((self.new ≡ self.old) × (step.new ≡ quiet_step Outcome.Ok)) }
     {
         *step = Step::new(self.alloc);
+        let room = PutRoom::new(self.alloc)?;
         let worked = self.work_tick(now)?;
         let record = Record {
             event: Event::Tick {
@@ -211,7 +213,7 @@ impl Host {
             step: worked,
         };
         self.follow(&record);
-        *step = record.step.into_step(self.alloc);
+        *step = record.step.into_step(self.alloc, room);
         Ok(())
     }
 
@@ -229,6 +231,7 @@ impl Host {
         ensures err { OnErr result ((self.new ≡ self.old) × (step.new ≡ quiet_step Outcome.Ok)) }
     {
         *step = Step::new(self.alloc);
+        let room = PutRoom::new(self.alloc)?;
         let worked = self.work_control(topology, &control)?;
         let record = Record {
             event: Event::ControlTake {
@@ -244,7 +247,7 @@ impl Host {
             step: worked,
         };
         self.follow(&record);
-        *step = record.step.into_step(self.alloc);
+        *step = record.step.into_step(self.alloc, room);
         Ok(())
     }
 

@@ -15,7 +15,7 @@ impl Host {
     /// Works out what a control message to the host does. A freeze takes its link down, where that is an in-link that is up. Of
     /// a notice the failed hosts are noted past the number of those noted, and of dropped links those past the number of those
     /// known, and the ways are made anew. What the barriers pass then is logged. Nothing changes but that the hosts are noted
-    /// and the new ways are set aside.
+    /// and the new ways are set aside. For more than 65,535 noted hosts or known links there is no memory.
     pub fn work_control(
         &mut self,
         topology: &Topology,

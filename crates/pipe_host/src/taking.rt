@@ -13,11 +13,12 @@ ghost use Rattle.pipe_model.specs.Got.{gets_of};
 ghost use Rattle.pipe_model.specs.Moments.{known_drops};
 ghost use Rattle.pipe_host.specs.Buffers.{IsFresh, fate_among};
 ghost use Rattle.pipe_host.specs.Host.{Stands, Works};
-ghost use Rattle.pipe_host.specs.Steps.{IsReceipt, answers_as, answers_for, fields_after, taken};
+ghost use Rattle.pipe_host.specs.Steps.{IsReceipt, answers_as, answers_for, fields_after, response, taken};
 
 use crate::fates::{carries, is_recall};
 use crate::host::Host;
 use crate::times::deliver;
+use pipe_barrier::Barriers;
 use pipe_base::{
     Body, Entry, Fate, HostId, KeptStep, LinkId, NoMemory, Outcome, Packet, PacketKind, Service,
     Step,
@@ -71,6 +72,23 @@ impl Host {
         ensures { IfOk result (IsReceipt self.now link packet.now fate) }
     {
         let barriers = self.links.barriers_with(link, packet);
+        if self.held.has_below(barriers) || self.answer(packet, fate).is_some() {
+            self.respond(barriers, packet, fate)
+        } else {
+            Ok(KeptStep::fated(fate))
+        }
+    }
+
+    /// The step of a packet that was received and leads to these barriers: what they pass is logged, and the packet is answered.
+    fn respond(
+        &self,
+        barriers: Barriers,
+        packet: &Packet,
+        fate: Option<Fate>,
+    ) -> Result<KeptStep, NoMemory>
+        ensures { IfOk result (λ step. (graph : Graph) (node : ℕ) (own : List Record) → links.Stands graph node own self.now.links
+            → step ≡ response graph node own barriers self.now fate packet.now) }
+    {
         let mut step = Step::new(self.alloc);
         step.fate = fate;
         self.held.copy_passed(barriers, &mut step.logged)?;

@@ -20,7 +20,8 @@ impl Host {
     /// Works out what a tick does. Nothing changes. Links that were silent for the patience go down, and what the barriers
     /// pass then is logged. With the host's promises after that, the messages and recalls are put again for which an answer is
     /// missing, and then a beacon on each link out of the host that is not known as dropped. The controller is told of each
-    /// in-link that is down then, and how many failed hosts are noted and how many links are known as dropped.
+    /// in-link that is down then and not dropped, how many failed hosts are noted, unless something is being recalled, and how
+    /// many links are known as dropped.
     pub fn work_tick(&self, now: Ts) -> Result<KeptStep, NoMemory>
         ensures { IfOk result (λ step. (graph : Graph) (node : NodeId) (own : List Record) → Stands graph node.0 own self.now
             → Works graph node.0 own (ticked node now step) self.now) }

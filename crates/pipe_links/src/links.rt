@@ -6,6 +6,7 @@ ghost use Rattle.pipe_base.specs.Moment.{Received, has_link, is_up, with_downed,
 ghost use Rattle.pipe_base.specs.Moment as moment;
 ghost use Rattle.pipe_base.specs.ShortestRoute.{route};
 ghost use Rattle.pipe_base.specs.Silence.{silent_marks};
+ghost use Rattle.pipe_base.specs.Step.{quiet_step};
 ghost use Rattle.pipe_base.specs.Ways.{PutsAlone, with_beacons, with_ways};
 ghost use Rattle.pipe_barrier.specs.Registers.{AreBarriers, downs};
 ghost use Rattle.pipe_barrier.specs.Registers as registers;
@@ -22,8 +23,8 @@ use crate::known::Known;
 use crate::ways::Ways;
 use pipe_barrier::{Barriers, InLinks, Registers};
 use pipe_base::{
-    Addressed, AddressedList, Control, DownList, LinkId, LinkList, List, NoMemory, NodeId, Packet,
-    Step, To, Ts,
+    Addressed, AddressedList, Control, DownList, KeptStep, LinkId, LinkList, List, NoMemory,
+    NodeId, Outcome, Packet, Step, To, Ts,
 };
 use pipe_model::{Event, Record, Took};
 use pipe_route::Routes;
@@ -213,6 +214,14 @@ impl Links {
         ensures err { OnErr result (step.new ≡ step.old) }
     {
         step.put_on_way(&self.ways.routes, packet)
+    }
+
+    /// The step that puts a packet on its way alone, or counts it where it has none.
+    pub fn send_on_way(&self, alloc: Global, packet: Packet) -> Result<KeptStep, NoMemory>
+        ensures { IfOk result (λ step. (graph : Graph) (node : ℕ) (own : List ARecord) → Stands graph node own self.now
+            → step ≡ with_ways (route graph (known_drops own) node) (packet ∷ []) (quiet_step Outcome.Ok)) }
+    {
+        KeptStep::on_way(alloc, &self.ways.routes, packet)
     }
 
     /// Puts a beacon with these barriers on each link out of the node that is not known as dropped.

@@ -65,7 +65,7 @@ pub fn push<T: Drop>(blocks: &mut Blocks<T>, item: T) -> Result<(), NoMemory>
     Ok(())
 }
 
-/// Takes the item at a place out. A block goes with its last item.
+/// Takes the item at a place out. A block goes with its last item, but where it is the only one: its room serves again.
 pub fn take<T: Drop>(blocks: &mut Blocks<T>, place: Place) -> Option<T>
     requires { (n : ℕ) × IsPlace blocks.old.items n place }
     ensures item { (n : ℕ) → IsPlace blocks.old.items n place → result ≡ slice_get (joined blocks.old.items) n }
@@ -73,7 +73,7 @@ pub fn take<T: Drop>(blocks: &mut Blocks<T>, place: Place) -> Option<T>
 {
     let block = &mut blocks[place.block];
     let item = block.remove(place.at);
-    if block.is_empty() {
+    if block.is_empty() && blocks.len() > 1 {
         blocks.remove(place.block);
     }
     item

@@ -7,7 +7,7 @@ use std::alloc::Global;
 use std::collections::VecDeque;
 use std::marker::Model;
 
-/// Items in the order put, in blocks that are never empty. An empty queue has none.
+/// Items in the order put, in blocks, of which none is empty but an only one.
 #[derive(Drop)]
 pub struct Queue<T> {
     blocks: Blocks<T>,

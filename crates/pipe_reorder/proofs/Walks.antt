@@ -1,5 +1,5 @@
 -- The walks over held messages: what is copied so far, and where a barrier ends the walk.
-use Rattle.std.proofs.Common.{◌≡◌, ℕ, ◌<◌, ◌≤◌, ◌||◌, not, cond, Bool, true, false, List, [], ◌∷◌, ◌++◌, Some, slice_get, refl, sym, subst, ap, ◌∙◌, append_assoc, append-nil}
+use Rattle.std.proofs.Common.{◌≡◌, ℕ, ◌<◌, ◌≤◌, ◌||◌, not, cond, nat_lt, Bool, true, false, List, [], ◌∷◌, ◌++◌, length, Some, slice_get, refl, sym, subst, ap, ◌∙◌, append_assoc, append-nil, ltb-true, ltb-false, lt-ltb, true≢false, arith}
 use Rattle.pipe_base.specs.declared.control.Announced.{Announced}
 use Rattle.pipe_base.specs.declared.message.Entry.{Entry}
 use Rattle.pipe_base.specs.declared.message.Key.{Key}
@@ -77,3 +77,26 @@ out-below service failed stones b ms =
 pub all_stay : (b : ℕ) (ms : Messages) (m : Key × List ℕ) → IsInOrder ms → slice_get ms 0 ≡ Some m → b ≤ m.0.ts.0 → from_barrier b ms ≡ ms
 all_stay b [] m order first high = cc
 all_stay b (n ∷ ms) m order first high = let same : m ≡ n = cc in from-all b n ms order (subst (λ (k : Key × List ℕ). b ≤ k.0.ts.0) same high)
+
+some_are : (m : Key × List ℕ) (ms : Messages) → nat_lt 0 (length (m ∷ ms)) ≡ true
+some_are m ms = lt-ltb 0 (length (m ∷ ms)) (omega arith)
+
+-- the first message tells whether some message is below the barrier
+below_is : (b : ℕ) (n : Key × List ℕ) (ms : Messages) → IsInOrder (n ∷ ms) → (low : Bool) → nat_lt n.0.ts.0 b ≡ low → low ≡ nat_lt 0 (length (below_barrier b (n ∷ ms)))
+below_is b n ms order true is =
+    sym (ap (λ (xs : Messages). nat_lt 0 (length xs)) (below-first b n ms (ltb-true n.0.ts.0 b is)) ∙ some_are n (below_barrier b ms))
+below_is b n ms order false is = sym (ap (λ (xs : Messages). nat_lt 0 (length xs)) (below-none b n ms order (ltb-false n.0.ts.0 b is)))
+
+pub first_tells : (b : ℕ) (ms : Messages) (m : Key × List ℕ) → IsInOrder ms → slice_get ms 0 ≡ Some m → nat_lt m.0.ts.0 b ≡ nat_lt 0 (length (below_barrier b ms))
+first_tells b [] m order first = cc
+first_tells b (n ∷ ms) m order first =
+    let same : n ≡ m = cc in
+    subst (λ (k : Key × List ℕ). nat_lt k.0.ts.0 b ≡ nat_lt 0 (length (below_barrier b (n ∷ ms)))) same (below_is b n ms order (nat_lt n.0.ts.0 b) refl)
+
+no_logs : (service : Service) (failed : List Announced) (stones : List Key) (ms : Messages) → nat_lt 0 (length ms) ≡ false → logs_of service failed stones ms ≡ []
+no_logs service failed stones [] none = refl
+no_logs service failed stones (m ∷ ms) none = absurd (true≢false (sym (some_are m ms) ∙ none))
+
+-- where none is below it, it lets nothing out
+pub none_out : (service : Service) (failed : List Announced) (stones : List Key) (b : ℕ) (ms : Messages) → nat_lt 0 (length (below_barrier b ms)) ≡ false → let_out service failed stones b ms ≡ []
+none_out service failed stones b ms none = no_logs service failed stones (below_barrier b ms) none

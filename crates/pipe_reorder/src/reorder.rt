@@ -1,9 +1,9 @@
 // The held messages of one service.
-ghost use Rattle.std.specs.Prelude.{◌≡◌, ◌++◌, ◌∷◌, [], ℕ, List, None, length, false, IfOk, OnOk, OnErr};
+ghost use Rattle.std.specs.Prelude.{◌≡◌, ◌++◌, ◌∷◌, [], ℕ, List, None, length, nat_lt, false, IfOk, OnOk, OnErr};
 ghost use Rattle.pipe_base.specs.declared.control.Announced.{Announced as AAnnounced};
 ghost use Rattle.pipe_base.specs.Failed.{is_void, past_known, time_of, without_void};
 ghost use Rattle.pipe_base.specs.Fate.{fate_among, fate_of};
-ghost use Rattle.pipe_base.specs.Messages.{IsInOrder, has_key, from_barrier, AreBelow};
+ghost use Rattle.pipe_base.specs.Messages.{IsInOrder, has_key, below_barrier, from_barrier, AreBelow};
 ghost use Rattle.pipe_reorder.specs.Buffer.{Buffer, adopted, empty_buffer, buffer_with, buffer_without, passed_by, left_by};
 ghost use Rattle.pipe_reorder.specs.Buffer.{but_newest, has_tombstone, keys_from, let_out, with_buried, with_no_buried, with_recalled, with_unburied};
 ghost use Rattle.pipe_reorder.specs.Buffer.{message_key, with_failed, with_no_void, with_placed, AppendsSome};
@@ -251,6 +251,14 @@ impl Reorder {
         Ok(fate)
     }
 
+    /// Whether a held message is below the barrier. Where none is, the barrier lets nothing out.
+    pub fn has_below(&self, barrier: Ts) -> bool
+        ensures value { result ≡ nat_lt 0 (length (below_barrier barrier.0 self.now.messages)) }
+        ensures none { result ≡ false → passed_by barrier.0 self.now ≡ [] }
+    {
+        has_below(&self.held, barrier)
+    }
+
     /// Appends the held messages below the barrier that are not void and have no tombstone, in the total order. After `NoMemory`
     /// some first ones of them were appended.
     pub fn copy_passed(&self, barrier: Ts, out: &mut LoggedList) -> Result<(), NoMemory>
@@ -294,6 +302,16 @@ impl Reorder {
         self.copy_passed(barrier, out)?;
         self.drop_passed(barrier);
         Ok(())
+    }
+}
+
+fn has_below(held: &BTreeMap<Key, Body>, barrier: Ts) -> bool
+    requires { IsInOrder held.now.entries }
+    ensures { result ≡ nat_lt 0 (length (below_barrier barrier.0 held.now.entries)) }
+{
+    match held.first_key_value() {
+        Some((key, _)) => key.ts.0 < barrier.0,
+        None => false,
     }
 }
 

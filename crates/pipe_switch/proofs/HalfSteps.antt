@@ -28,7 +28,7 @@ use Rattle.pipe_links.proofs.Tells.{tells_marks}
 use Rattle.pipe_model.specs.declared.record.Record.{Record}
 use Rattle.pipe_links.specs.Ways.{outs_left}
 use Rattle.pipe_model.specs.Duties.{beacons, done_told, downs_told, fields, gone_told, owed_by_half, owed_by_host, owed_by_take, owed_by_tick}
-use Rattle.pipe_model.specs.Got.{gets}
+use Rattle.pipe_model.specs.Got.{gets, is_beacon}
 use Rattle.pipe_model.specs.Marks.{newly_noted, noted_by, told_drops, told_marks}
 use Rattle.pipe_model.specs.Moments.{barrier_at, known_drops, moments_of, noted_hosts, quiet_calls, received}
 use Rattle.pipe_model.specs.Run.{IsNodeHistory, IsNodeStep}
@@ -132,6 +132,22 @@ passes graph node own link p place keep b step half up are step_is =
           ∙ ap (lost (route graph (known_drops own) node)) owes);
       control_is = refl;
     })
+
+none_where : (t : Bool) (ps : List Packet) → t ≡ true → [] ≡ (if t then [] else ps)
+none_where true ps is = refl
+none_where false ps is = cc
+
+-- a beacon that is received goes no further
+pub stops : (graph : Graph) (node : ℕ) (own : List Record) (link : LinkId) (p : Packet) (place : ℕ) (keep : Bool) (step : Step) → is_half graph node ≡ true
+    → is_up (moments_of own) link.0 ≡ true → is_beacon p.kind ≡ true → step ≡ quiet_step Ok → IsNodeStep graph node own (taken link p place keep step)
+stops graph node own link p place keep step half up beacon step_is =
+    let moments : List Moment = Received link.0 p.be.0 p.commit.0 ∷ moments_of own in
+    let b : Barriers = record {
+      be = record { 0 = barrier plane.BestEffort (ins_of graph node) moments };
+      commit = record { 0 = barrier plane.Commit (ins_of graph node) moments };
+    } in
+    passes graph node own link p place keep b step half up (record { be_is = refl; commit_is = refl })
+    (step_is ∙ ap (λ (ps : List Packet). with_ways (route graph (known_drops own) node) ps (quiet_step Ok)) (none_where (is_beacon p.kind) _ beacon))
 
 -- what is told of so many dropped links
 abbrev gone_of : ℕ → List LinkId → List Addressed

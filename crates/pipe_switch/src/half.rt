@@ -1,5 +1,5 @@
 // A half of a switch.
-ghost use Rattle.std.specs.Prelude.{◌≡◌, ◌∷◌, ◌<◌, [], ℕ, Bool, List, true, IfOk, OnErr, OnOk};
+ghost use Rattle.std.specs.Prelude.{◌≡◌, ◌∷◌, ◌<◌, [], ℕ, Bool, List, true, false, IfOk, OnErr, OnOk};
 ghost use Rattle.pipe_base.specs.Graph.{Graph, ins_of, is_half};
 ghost use Rattle.pipe_base.specs.Moment.{has_link};
 ghost use Rattle.pipe_base.specs.Packets.{forwarded};
@@ -14,8 +14,8 @@ ghost use Rattle.pipe_switch.specs.Half.{Does, IsPassing, Stands, StandsWith, Wo
 
 use pipe_barrier::{Barriers, Registers};
 use pipe_base::{
-    Addressed, Control, KeptStep, LinkId, NoMemory, NodeId, Outcome, Packet, PacketKind, Step, To,
-    Ts,
+    Addressed, Control, KeptStep, LinkId, NoMemory, NodeId, Outcome, Packet, PacketKind, PutRoom,
+    Step, To, Ts,
 };
 use pipe_links::Links;
 use pipe_model::{Event, Record, Took};
@@ -71,21 +71,20 @@ impl Half {
         if !self.links.is_up(link) {
             return Ok(KeptStep::quiet(Outcome::Ignored));
         }
-        let step = self.pass_on(link, packet)?;
-        step.keep(self.alloc)
+        if is_beacon(packet.kind) {
+            return Ok(KeptStep::quiet(Outcome::Ok));
+        }
+        self.pass_on(link, packet)
     }
 
-    /// The step of a packet that was received.
-    fn pass_on(&self, link: LinkId, packet: &Packet) -> Result<Step, NoMemory>
+    /// The step of a packet that was received and is no beacon.
+    fn pass_on(&self, link: LinkId, packet: &Packet) -> Result<KeptStep, NoMemory>
+        requires { is_beacon packet.now.kind ≡ false }
         ensures { IfOk result (IsPassing self.now link packet.now) }
     {
         let barriers = self.links.barriers_with(link, packet);
-        let mut step = Step::new(self.alloc);
-        if !is_beacon(packet.kind) {
-            let packet = forwarded(packet, barriers)?;
-            self.links.put_on_way(packet, &mut step)?;
-        }
-        Ok(step)
+        let packet = forwarded(packet, barriers)?;
+        self.links.send_on_way(self.alloc, packet)
     }
 
     /// Works out what a tick does. Nothing changes. Links that were silent for the patience go down, and a beacon with the
@@ -149,6 +148,7 @@ impl Half {
         ensures err { OnErr result ((self.new ≡ self.old) × (step.new ≡ quiet_step Outcome.Ok)) }
     {
         *step = Step::new(self.alloc);
+        let room = PutRoom::new(self.alloc)?;
         let record = Record {
             event: Event::Take {
                 link,
@@ -159,7 +159,7 @@ impl Half {
             took: Took::Link { link, packet },
         };
         self.links.follow(&record);
-        *step = record.step.into_step(self.alloc);
+        *step = record.step.into_step(self.alloc, room);
         Ok(())
     }
 
@@ -170,6 +170,7 @@ impl Half {
         ensures err { OnErr result ((self.new ≡ self.old) × (step.new ≡ quiet_step Outcome.Ok)) }
     {
         *step = Step::new(self.alloc);
+        let room = PutRoom::new(self.alloc)?;
         let record = Record {
             event: Event::Tick {
                 node: self.links.node(),
@@ -179,7 +180,7 @@ impl Half {
             took: Took::Nothing,
         };
         self.links.follow(&record);
-        *step = record.step.into_step(self.alloc);
+        *step = record.step.into_step(self.alloc, room);
         Ok(())
     }
 
@@ -197,6 +198,7 @@ impl Half {
         ensures err { OnErr result ((self.new ≡ self.old) × (step.new ≡ quiet_step Outcome.Ok)) }
     {
         *step = Step::new(self.alloc);
+        let room = PutRoom::new(self.alloc)?;
         let worked = self.work_control(topology, &control)?;
         let record = Record {
             event: Event::ControlTake {
@@ -212,7 +214,7 @@ impl Half {
             step: worked,
         };
         self.links.follow(&record);
-        *step = record.step.into_step(self.alloc);
+        *step = record.step.into_step(self.alloc, room);
         Ok(())
     }
 

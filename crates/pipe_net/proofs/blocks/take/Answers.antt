@@ -4,8 +4,8 @@ use Rattle.pipe_net.specs.Blocks.{joined}
 use Rattle.pipe_net.proofs.BlockLaws.{emptied_there, given_there, left_there, when_some}
 use Rattle.pipe_net.proofs.blocks.take.Goals as goal
 
-pub returns-then-is_empty-clause-item : goal.returns-then-is_empty-clause-item
-returns-then-is_empty-clause-item g c = λ n at.
+pub returns-then-len-gt1-clause-item : goal.returns-then-len-gt1-clause-item
+returns-then-len-gt1-clause-item g c = λ n at.
     given_there c.args.blocks.now.items n c.args.place c.index_mut-block.result.now c.remove-item.result at c.index_mut-block.ensures.value c.remove-item.ensures.variant c.remove-item.ensures.value
 
 pub returns-else-is_empty-clause-item : goal.returns-else-is_empty-clause-item
@@ -17,8 +17,8 @@ returns-else-is_empty-clause-left g c = λ n at.
     left_there c.args.blocks.now.items n c.args.place c.index_mut-block.result.now c.remove-item.new.self c.remove-item.result at c.index_mut-block.ensures.value
     c.remove-item.ensures.variant c.remove-item.ensures.items
 
-pub returns-then-is_empty-clause-left : goal.returns-then-is_empty-clause-left
-returns-then-is_empty-clause-left g c = λ n at.
+pub returns-then-len-gt1-clause-left : goal.returns-then-len-gt1-clause-left
+returns-then-len-gt1-clause-left g c = λ n at.
     let blocks = c.args.blocks.now in
     let i = c.args.place.block in
     let new = c.remove-item.new.self in

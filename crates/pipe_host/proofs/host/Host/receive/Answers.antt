@@ -1,38 +1,17 @@
-use Rattle.std.proofs.Common.{◌≡◌, ◌<◌, ◌-◌, ◌^◌, List, ◌++◌, ap, sym, subst, ◌∙◌}
-use Rattle.std.proofs.lemmas.List.Elements.{All-nil}
-use Rattle.std.proofs.lemmas.Result.{IfOk-weaker}
-use Rattle.pipe_base.specs.declared.message.Entry.{Entry}
-use Rattle.pipe_base.specs.declared.message.Service.{Service}
-use Rattle.pipe_base.specs.declared.step.Outcome.TheVariants.{Ok}
-use Rattle.pipe_base.specs.declared.step.Step.{Step}
-use Rattle.pipe_base.specs.Messages.{AreBelow}
-use Rattle.pipe_base.specs.ShortestRoute.{route}
-use Rattle.pipe_base.specs.Step.{quiet_step}
-use Rattle.pipe_base.specs.Ways.{with_ways}
-use Rattle.pipe_model.specs.Moments.{known_drops}
-use Rattle.pipe_reorder.specs.Buffer.{passed_by}
-use Rattle.pipe_host.specs.Buffers.{logged_by}
-use Rattle.pipe_host.specs.Steps.{IsReceipt, answers_for, fields_after}
+use Rattle.std.proofs.Common.{true≢false, sym, ◌∙◌}
+use Rattle.pipe_host.proofs.HostSteps.{is_silent}
 use Rattle.pipe_host.proofs.host.Host.receive.Goals as goal
+use Rattle.pipe_host.proofs.host.Host.receive.Goals.{then-has_below, else-has_below}
 
-pub returns : goal.returns
-returns c =
-    let k = c.args.self.now in
-    let p = c.args.packet.now in
-    let fate = c.args.fate in
-    let b = c.barriers_with-barriers.result in
-    let log : List (Service × Entry) = c.copy_passed.new.out in
-    let log_is : log ≡ logged_by b k.held =
-    c.in_ok-copy_passed.ensures.ok ∙ ap (λ (s : Step). (s.logged ++ passed_by b.be.0 k.held.best) ++ passed_by b.commit.0 k.held.reliable) c.new-step.ensures in
-    let below : AreBelow (2 ^ 64 - 1) log =
-    c.in_ok-copy_passed.ensures.within (subst (λ (s : Step). AreBelow (2 ^ 64 - 1) s.logged) (sym c.new-step.ensures) (All-nil (λ (e : Service × Entry). e.1.key.ts.0 < 2 ^ 64 - 1))) in
-    IfOk-weaker c.keep.result (λ (kept : Step). kept ≡ c.put_answer.new.step) (IsReceipt k c.args.link p fate)
-    (λ kept is. record {
-      barriers = b;
-      barriers_are = c.barriers_with-barriers.ensures;
-      step_is = λ graph node own stands.
-          is ∙ c.in_ok-put_answer.ensures.ok graph node own stands below
-          ∙ ap (λ (s : Step). with_ways (route graph (known_drops own) node) (answers_for (record { 0 = node }) (fields_after log k) fate p) (record s { fate = fate; logged = log })) c.new-step.ensures
-          ∙ ap (λ (es : List (Service × Entry)). with_ways (route graph (known_drops own) node) (answers_for (record { 0 = node }) (fields_after es k) fate p) (record (quiet_step Ok) { fate = fate; logged = es })) log_is;
-    })
-    c.keep.ensures
+pub returns-else-is_some : goal.returns-else-is_some
+returns-else-is_some c = elim c.if-has_below.branch [
+  | then-has_below w ↦ absurd (true≢false (sym w.if-has_below.true ∙ sym w.value-is ∙ c.if-is_some.false))
+  | else-has_below w ↦ record {
+    barriers = c.barriers_with-barriers.result;
+    barriers_are = c.barriers_with-barriers.ensures;
+    step_is = λ graph node own stands.
+        c.fated.ensures
+        ∙ is_silent graph node own c.barriers_with-barriers.result c.args.self.now c.args.fate c.args.packet.now w.answer.result stands.node_is
+        (c.has_below.ensures w.if-has_below.false) (sym w.is_some.ensures ∙ sym w.value-is ∙ c.if-is_some.false) w.answer.ensures;
+  }
+]
