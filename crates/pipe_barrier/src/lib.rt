@@ -1,4 +1,4 @@
-//! The registers of a node: per in-link the greatest barriers received, and the node's two barriers
+//! The in-links of a node: per link the greatest barriers received and how long it has been silent, and the node's two barriers
 //! over the links in use.
 #![tactic(auto)]
 

@@ -66,21 +66,21 @@ impl Registers {
         })
     }
 
-    /// A packet was received on an in-link that is up. One walk over the in-links.
+    /// A packet was received on an in-link that is up. Takes as long as there are in-links, as do `down` and `remove`.
     pub fn raise(&mut self, link: LinkId, be: Ts, commit: Ts)
         ensures { AddsMoment self.old self.new (Received link.0 be.0 commit.0) }
     {
         self.change(link, Change::Received { be, commit });
     }
 
-    /// An in-link that was up went down. One walk over the in-links.
+    /// An in-link that was up went down.
     pub fn down(&mut self, link: LinkId)
         ensures { AddsMoment self.old self.new (WentDown link.0) }
     {
         self.change(link, Change::WentDown);
     }
 
-    /// The node came to know an in-link as dropped. One walk over the in-links.
+    /// The node came to know an in-link as dropped.
     pub fn remove(&mut self, link: LinkId)
         ensures { AddsMoment self.old self.new (Dropped link.0) }
     {

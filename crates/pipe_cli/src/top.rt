@@ -15,7 +15,8 @@ use pipe_base::{Failed, List, Sink, Source};
 use pipe_model::Trace;
 use std::alloc::Global;
 
-/// How the program ended, and what happened in its run. The trace is empty where no text was written.
+/// How the program ended, and what happened in its run. The trace is empty but with the status `Ok` and
+/// with a write fault.
 #[derive(Drop)]
 pub struct Outcome {
     pub status: Status,

@@ -29,7 +29,7 @@ impl Controller {
         Ok(())
     }
 
-    // Announces the hosts that are due, as soon as all of them can go. These hosts.
+    // Announces the hosts that are due, as soon as all of them can go. Answers them.
     pub(crate) fn announce(&mut self, topology: &Topology) -> Result<AnnouncedList, NoMemory>
         requires { Fits topology.now self.old }
         ensures news { IfOk result (λ news. news ≡ newly_announced topology.now (view_of self.old)) }

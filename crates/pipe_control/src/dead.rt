@@ -15,7 +15,7 @@ use pipe_failtime::useless;
 use pipe_topo::{LinkSet, Reports, Topology};
 
 impl Controller {
-    // Drops the dead links and lets the doomed hosts leave, as soon as no host is a reason to wait. These links.
+    // Drops the dead links and lets the doomed hosts leave, as soon as no host is a reason to wait. Answers the links.
     pub(crate) fn drop_dead(&mut self, topology: &Topology) -> Result<LinkList, NoMemory>
         requires { Fits topology.now self.old }
         ensures dead { IfOk result (λ dead. dead ≡ newly_dead topology.now (view_of self.old)) }

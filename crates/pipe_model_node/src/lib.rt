@@ -1,6 +1,6 @@
 //! Laws of one node, whatever packets it is handed: its logs rise, it stamps above all that it logged, each link in use
-//! bounds its barrier, the mark of a link that went down is its commit register from then on, and its promise never falls. In a run
-//! each node's own records are such records, so the laws hold of every run.
+//! bounds its barrier, the mark of a link that went down is its commit register from then on, and its promise never falls.
+//! In a run each node's own records are such records, so the laws hold of every run.
 #![tactic(auto)]
 
 ghost use Rattle.std.specs.Prelude.{◌≡◌, ◌≢◌, ◌<◌, ◌≤◌, ◌∷◌, ℕ, All, AllPairs, List, Some, false, length, true};

@@ -127,7 +127,8 @@ fn is_crash(event: &Event) -> bool
     matches!(event, Event::Crash { .. })
 }
 
-/// Works out the step of the node that acts. Of the node only what the step makes it hold, note or begin is changed.
+/// Works out the step of the node that acts. Of the node only what the step makes it hold, note, bury, begin or set aside is
+/// changed.
 fn work_at(
     topology: &Topology,
     node: &mut Node,

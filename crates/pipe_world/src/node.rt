@@ -65,7 +65,8 @@ impl Node {
         }
     }
 
-    /// Works out the taking of a packet from a link into the node. Of the node only the message that it holds is changed.
+    /// Works out the taking of a packet from a link into the node. Of the node only the message that it holds and the tombstones
+    /// are changed.
     pub fn work_take(&mut self, link: LinkId, packet: &Packet) -> Result<KeptStep, NoMemory>
         ensures ok { IfOk result (λ step. (graph : Graph) (node : ℕ) (own : List ARecord) (place : ℕ) (keep : Bool) → Stands graph node own self.old
             → has_link link.0 (ins_of graph node) ≡ true → Works graph node own (taken link packet.now place keep step) self.new) }
@@ -115,7 +116,7 @@ impl Node {
         }
     }
 
-    /// Gives back what was held or begun for a step that was worked out and is refused. Takes no memory.
+    /// Undoes what was held, noted, buried, begun or set aside for a step that was worked out and is refused. Takes no memory.
     pub fn undo(&mut self, made: &Record)
         ensures { (graph : Graph) (node : ℕ) (own : List ARecord) → StandsWith graph node own made.now self.old
             → IsNodeStep graph node own made.now → Stands graph node own self.new }

@@ -20,7 +20,7 @@ ghost use Rattle.pipe_model.specs.Controller.{view};
 ghost use Rattle.pipe_host.specs.Host as hosts;
 ghost use Rattle.pipe_switch.specs.Half as halves;
 ghost use Rattle.pipe_world.specs.Node as node;
-ghost use Rattle.pipe_world.specs.OnTime.{IsLoggedOnTime};
+ghost use Rattle.pipe_model.specs.OnTime.{IsLoggedOnTime};
 ghost use Rattle.pipe_world.specs.World.{Extends, HasHalf, HasHost};
 
 use crate::event::run_event;
@@ -92,8 +92,9 @@ impl World {
     }
 
     /// All that happened, the oldest record first. It is a history by the rules, and the order of the channel holds of it; what a
-    /// barrier passes is logged in that step, unless it is late, void or taken back; what all correct receivers have passed is in all their logs or in none; no reliable message is late of itself, and where each
-    /// take took the oldest packet of its link, no best-effort message is late.
+    /// barrier passes is logged in that step, unless it is late, void or taken back; what all correct receivers have passed is in
+    /// all their logs or in none; no reliable message is late of itself, and where each take took the oldest packet of its link,
+    /// no best-effort message is late.
     pub fn trace(&self) -> &Trace
         ensures trace { result.now ≡ self.now.trace }
         ensures within { items_of self.now.trace ≤ most_items }
@@ -207,7 +208,7 @@ fn half_in(nodes: &[NodeState], node: NodeId) -> &Half
     }
 }
 
-/// A node with its in-links for each number, to which nothing has happened.
+/// A host or a half for each number, to which nothing has happened.
 fn fresh_nodes(alloc: Global, topology: &Topology, count: u16) -> Result<Vec<NodeState>, NoMemory>
     requires { count ≡ topology.now.nodes }
     ensures count { IfOk result (λ nodes. length nodes.items ≡ topology.now.nodes) }
