@@ -1,12 +1,15 @@
 -- Lemmas on useless links.
-use Rattle.std.proofs.Common.{◌≡◌, ℕ, ◌<◌, Bool, true, false, ◌&&◌, not, List, ◌∷◌, ◌++◌, sym, ◌∙◌, true≢false}
-use Rattle.pipe_base.specs.Graph.{Graph, IsGraph}
+use Rattle.std.proofs.Common.{◌≡◌, ℕ, ◌<◌, Bool, true, false, ◌&&◌, not, List, ◌∷◌, ◌++◌, sym, ap, ◌∙◌, true≢false}
+use Rattle.pipe_base.specs.Graph.{Graph, IsGraph, tail_of}
 use Rattle.pipe_base.specs.Path.{IsPath}
 use Rattle.pipe_base.specs.Reach.{feeds}
 use Rattle.pipe_paths.proofs.BelowLaws.{none_below}
 use Rattle.pipe_paths.proofs.Rounds.{fed_along}
 use Rattle.pipe_paths.proofs.Tests.{and_both, and_parts, not_gives, not_is, not_from}
 use Rattle.pipe_base.specs.Useless.{IsUseless, is_fed, is_useless}
+use Rattle.pipe_topo.specs.Sets.{has}
+use Rattle.pipe_failtime.specs.Fed.{is_fed_from}
+use Rattle.pipe_failtime.specs.Filled.{IsFilled}
 use Rattle.pipe_failtime.proofs.TestLaws.{and_fails, none_from}
 
 pub useless_in_words : (g : Graph) (by kept : ℕ → Bool) (link : ℕ) → is_useless g by kept link ≡ true → IsUseless g by kept link
@@ -31,3 +34,8 @@ pub kept_paths : (g : Graph) (by kept : ℕ → Bool) (host end link : ℕ) (bef
 kept_paths g by kept host end link before after graph lt kept_is path =
     not_from (is_useless g by kept link) (λ useless.
     true≢false (sym (fed_along g by host end link before after graph path) ∙ (useless_in_words g by kept link useless).unfed host lt kept_is))
+
+-- whether a link is useless, by the nodes that are fed
+pub useless_from : (g : Graph) (by kept : ℕ → Bool) (fed : List Bool) (link : ℕ) (told : Bool) → IsFilled fed g.nodes (is_fed_from g by kept) g.nodes → tail_of g link < g.nodes
+    → told ≡ (by link && not (has fed (tail_of g link))) → is_useless g by kept link ≡ told
+useless_from g by kept fed link told filled lt is = sym (is ∙ ap (λ (t : Bool). by link && not t) (filled.below (tail_of g link) lt))

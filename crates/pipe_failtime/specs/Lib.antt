@@ -1,3 +1,4 @@
+pub mod Fed
 pub mod Filled
 pub mod First
 pub mod Reaching

@@ -1,10 +1,12 @@
 // Links that no kept host can use.
-ghost use Rattle.std.specs.Prelude.{◌≡◌, ℕ, ◌<◌, ◌==◌, ◌&&◌, ◌||◌, length, IfOk};
-ghost use Rattle.pipe_base.specs.Graph.{is_half};
+ghost use Rattle.std.specs.Prelude.{◌≡◌, ℕ, ◌<◌, ◌==◌, ◌&&◌, ◌||◌, length, not, IfOk};
+ghost use Rattle.pipe_base.specs.Graph.{is_half, tail_of};
 ghost use Rattle.pipe_topo.specs.Reports.{report_of};
 ghost use Rattle.pipe_topo.specs.Sets.{has};
 ghost use Rattle.pipe_base.specs.Reported.{unreported};
-ghost use Rattle.pipe_base.specs.Useless.{is_fed, is_useless};
+ghost use Rattle.pipe_base.specs.Useless.{is_useless};
+ghost use Rattle.pipe_failtime.specs.Fed.{is_fed_from};
+ghost use Rattle.pipe_failtime.specs.Filled.{IsFilled};
 
 use crate::reach::reachers;
 use crate::reported::unreported;
@@ -40,50 +42,64 @@ fn useless_by(
     ensures size { IfOk result (λ set. length set ≡ length topology.now.links) }
     ensures value { IfOk result (λ set. has set ≡ is_useless topology.now (has by.now) (has kept.now)) }
 {
+    let fed = fed_nodes(alloc, topology, by, kept)?;
     let mut set = LinkSet::none(alloc, topology.links())?;
     for link in 0..topology.links() {
-        if is_useless(alloc, topology, by, kept, LinkId(link))? {
+        if is_useless(topology, by, &fed, LinkId(link)) {
             set.insert(LinkId(link));
         }
     }
     Ok(set)
 }
 
-fn is_useless(
-    alloc: Global,
-    topology: &Topology,
-    by: &LinkSet,
-    kept: &HostSet,
-    link: LinkId,
-) -> Result<bool, NoMemory>
+// The link is of the set, and its tail is none of the nodes that are fed.
+fn is_useless(topology: &Topology, by: &LinkSet, fed: &[bool], link: LinkId) -> bool
     requires links { length by.now ≡ length topology.now.links }
     requires link { link.0 < length topology.now.links }
-    ensures { IfOk result (λ yes. yes ≡ is_useless topology.now (has by.now) (has kept.now) link.0) }
-{
-    if !by.has(link) {
-        return Ok(false);
-    }
-    let fed = is_fed(alloc, topology, by, kept, link)?;
-    Ok(!fed)
-}
-
-// A kept host feeds the link.
-#[tactic(auto, using(crate::proofs::TestLaws::none_more))]
-fn is_fed(
-    alloc: Global,
-    topology: &Topology,
-    by: &LinkSet,
-    kept: &HostSet,
-    link: LinkId,
-) -> Result<bool, NoMemory>
-    requires links { length by.now ≡ length topology.now.links }
-    requires link { link.0 < length topology.now.links }
-    ensures { IfOk result (λ yes. yes ≡ is_fed topology.now (has by.now) (has kept.now) link.0) }
+    requires nodes { length fed.now ≡ topology.now.nodes }
+    ensures value { result ≡ (has by.now link.0 && not (has fed.now (tail_of topology.now link.0))) }
+    ensures tail { tail_of topology.now link.0 < topology.now.nodes }
 {
     let tail = topology.tail(link);
-    let reachers = reachers(alloc, topology, by, tail)?;
+    by.has(link) && !fed[usize::from(tail.0)]
+}
+
+// Whether a kept host feeds the links out of each node.
+#[tactic(auto, using(crate::proofs::FilledLaws::filled_none, crate::proofs::FilledLaws::filled_in, crate::proofs::FilledLaws::filled_out))]
+fn fed_nodes(
+    alloc: Global,
+    topology: &Topology,
+    by: &LinkSet,
+    kept: &HostSet,
+) -> Result<Vec<bool>, NoMemory>
+    requires { length by.now ≡ length topology.now.links }
+    ensures { IfOk result (λ fed. IsFilled fed.items topology.now.nodes (is_fed_from topology.now (has by.now) (has kept.now)) topology.now.nodes) }
+{
+    let mut fed = vec![in alloc; false; usize::from(topology.nodes())]?;
+    for node in 0..topology.nodes() {
+        if is_fed_from(alloc, topology, by, kept, NodeId(node))? {
+            fed[usize::from(node)] = true;
+        }
+    }
+    Ok(fed)
+}
+
+// A kept host feeds the links out of the node.
+#[tactic(auto, using(crate::proofs::TestLaws::none_more))]
+fn is_fed_from(
+    alloc: Global,
+    topology: &Topology,
+    by: &LinkSet,
+    kept: &HostSet,
+    node: NodeId,
+) -> Result<bool, NoMemory>
+    requires links { length by.now ≡ length topology.now.links }
+    requires node { node.0 < topology.now.nodes }
+    ensures { IfOk result (λ yes. yes ≡ is_fed_from topology.now (has by.now) (has kept.now) node.0) }
+{
+    let reachers = reachers(alloc, topology, by, node)?;
     for host in 0..topology.hosts() {
-        if kept.has(HostId(host)) && is_at(topology, tail, &reachers, host) {
+        if kept.has(HostId(host)) && is_at(topology, node, &reachers, host) {
             return Ok(true);
         }
     }
