@@ -30,7 +30,7 @@ number_from false first rest is all few alone =
     both_true (digit_test first all.0) (both_true short (list_test rest all.1))
 
 -- digits that do not begin with a zero, or are one digit
-is_number-from : (word : List ℕ) → AllDigits 10 word → 0 < length word → length word ≤ 15
+pub is_number-from : (word : List ℕ) → AllDigits 10 word → 0 < length word → length word ≤ 15
     → (get_or word 0 0 ≡ 48 → length word ≡ 1) → is_number word ≡ true
 is_number-from [] all some few alone = absurd (omega arith)
 is_number-from (first ∷ rest) all some few alone =
@@ -52,12 +52,12 @@ shape_from true first rest is h starts = grind (arith, nat_tests)
 shape_from false first rest is h starts = absurd (grind (arith, nat_tests))
 
 -- a number is not empty, and begins with a zero only where that is all
-number_shape : (word : List ℕ) → is_number word ≡ true → (0 < length word) × (get_or word 0 0 ≡ 48 → length word ≡ 1)
+pub number_shape : (word : List ℕ) → is_number word ≡ true → (0 < length word) × (get_or word 0 0 ≡ 48 → length word ≡ 1)
 number_shape [] is = absurd cc
 number_shape (first ∷ rest) is = (omega arith, λ z. let none = shape_from (first == 48) first rest refl is z in omega arith)
 
 -- what is chosen where a test holds
-chosen : (t : Bool) (v n : ℕ) → (if t then Some v else None) ≡ Some n → (t ≡ true) × (v ≡ n)
+pub chosen : (t : Bool) (v n : ℕ) → (if t then Some v else None) ≡ Some n → (t ≡ true) × (v ≡ n)
 chosen true v n is = (refl, cc)
 chosen false v n is = absurd cc
 

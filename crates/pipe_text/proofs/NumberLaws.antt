@@ -1,12 +1,12 @@
 -- Lemmas on numbers as words.
-use Rattle.std.proofs.Common.{lit<, lit≤, ◌≡◌, ◌==◌, ◌&&◌, ℕ, ◌+◌, ◌-◌, ◌*◌, ◌<◌, ◌≤◌, ◌^◌, Bool, true, false, List, [], ◌∷◌, length, take, get_or, arith, sym, nat_lt, refl, subst, nat_le, if◌then◌else◌, Some, None}
+use Rattle.std.proofs.Common.{lit<, ◌≡◌, ◌==◌, ◌&&◌, ℕ, ◌+◌, ◌-◌, ◌*◌, ◌<◌, ◌≤◌, ◌^◌, Bool, true, false, List, [], ◌∷◌, length, take, get_or, arith, sym, nat_lt, refl, subst, nat_le, if◌then◌else◌, Some, None}
 use Rattle.std.proofs.Math.Nat.{pow-le-pow_right}
 use Rattle.std.specs.Char.{is_ascii_digit, digit_value}
 use Rattle.std.specs.List.{list_all}
 use Rattle.std.specs.Option.{IfSome}
 use Rattle.std.specs.Str.Parse.{AllDigits, digits_value}
-use Rattle.std.proofs.lemmas.Int.Digits.{digits_value-lt, digits_value_more}
-use Rattle.std.proofs.lemmas.Str.Parse.{digit_at, digits_value-take-le}
+use Rattle.std.proofs.lemmas.Int.Digits.{digits_value-lt, digits_value_more, digits_more}
+use Rattle.std.proofs.lemmas.List.{length-take}
 use Rattle.pipe_text.specs.Number.{is_number, number_of}
 use Rattle.std.proofs.lemmas.Bool.Decides.{nat_tests}
 
@@ -46,28 +46,29 @@ pub number_digits : (word : List ℕ) → is_number word ≡ true → AllDigits 
 number_digits [] is = absurd cc
 number_digits (first ∷ rest) is = number_parts (first == 48) first rest refl is
 
--- the value of the digit at a place of a number
-pub number_digit : (word : List ℕ) (i : ℕ) → is_number word ≡ true → i < length word
-    → (digit_value (get_or word i 0) ≡ get_or word i 0 - 48) × (48 ≤ get_or word i 0) × (get_or word i 0 ≤ 57)
-number_digit word i is within =
-    let range = digit_at word i (number_digits word is).0 within in
-    (grind (arith, nat_tests, range.0, range.1), range.0, range.1)
+-- the first few digits have a small value
+pub front_small : (text : List ℕ) (count : ℕ) → count ≤ 15 → AllDigits 10 (take count text) → digits_value 10 (take count text) < 1000000000000000
+front_small text count few digits =
+    let below = digits_value-lt 10 (take count text) digits in
+    let short : length (take count text) ≤ 15 = omega (arith, length-take count text) in
+    let most : 10 ^ length (take count text) ≤ 10 ^ 15 = pow-le-pow_right {n = 10} (lit< tt) {i = length (take count text)} {j = 15} short in
+    omega (arith, below, most)
 
--- each front of a number is small
-pub front_small : (word : List ℕ) (i : ℕ) → is_number word ≡ true → digits_value 10 (take i word) < 1000000000000000
-front_small word i is =
-    let digits = number_digits word is in
-    let below = digits_value-lt 10 word digits.0 in
-    let most : 10 ^ length word ≤ 10 ^ 15 = pow-le-pow_right {n = 10} (lit< tt) {i = length word} {j = 15} digits.1 in
-    omega (arith, digits_value-take-le 10 word i (lit≤ tt), below, most)
+-- a digit as its value
+pub digit_range : (digit : ℕ) → is_ascii_digit digit ≡ true → (digit_value digit ≡ digit - 48) × (48 ≤ digit) × (digit ≤ 57)
+digit_range digit is = (grind (arith, nat_tests), grind (arith, nat_tests), grind (arith, nat_tests))
 
 -- one digit more
-pub value_more : (word : List ℕ) (i value digit : ℕ) → is_number word ≡ true → i < length word
-    → value ≡ digits_value 10 (take i word) → digit ≡ get_or word i 0 - 48
-    → value * 10 + digit ≡ digits_value 10 (take (i + 1) word)
-value_more word i value digit is within so_far next =
-    let known = number_digit word i is within in
-    omega (arith, known.0, so_far, next, digits_value_more 10 word i within)
+pub digits_one_more : (text : List ℕ) (at : ℕ) → at < length text → is_ascii_digit (get_or text at 0) ≡ true
+    → AllDigits 10 (take at text) → AllDigits 10 (take (at + 1) text)
+digits_one_more text at within is digits = digits_more 10 text at within digits (digit_small (get_or text at 0) is)
+
+pub value_more : (text : List ℕ) (at value digit : ℕ) → at < length text → is_ascii_digit (get_or text at 0) ≡ true
+    → value ≡ digits_value 10 (take at text) → digit ≡ get_or text at 0 - 48
+    → value * 10 + digit ≡ digits_value 10 (take (at + 1) text)
+value_more text at value digit within is so_far next =
+    let known = digit_range (get_or text at 0) is in
+    omega (arith, known.0, so_far, next, digits_value_more 10 text at within)
 
 -- a number that is read is within its bound
 pub number_within : (most : ℕ) (word : List ℕ) → IfSome (number_of most word) (λ n. n ≤ most)

@@ -115,3 +115,28 @@ read_at_feed text rest word after words now plain split now_is within so_far =
       now_is ∙ ap (λ ws. words ++ ws) (sym (words_of_one word plain) ∙ ap words_of (sym (append-nil word))) ∙ sym found.2,
       shorter rest word after 10 split within,
     )
+
+-- ---- a line of three words
+
+from_start : (text : List ℕ) → Continues text text []
+from_start text line more is = (line, is, refl)
+
+one_word : (word : List ℕ) → 0 < length word → word_before word [] ≡ word ∷ []
+one_word word some = ap (λ t. if not t then word ∷ [] else []) (ne_eqb (length word) 0 (λ z. omega arith))
+
+next_word : (words : List (List ℕ)) (word : List ℕ) → 0 < length word → words ++ word ∷ [] ≡ words ++ word_before word []
+next_word words word some = ap (λ ws. words ++ ws) (sym (one_word word some))
+
+after_word : (word after : List ℕ) (stop : ℕ) → length after ≤ length (word ++ stop ∷ after)
+after_word word after stop = omega (arith, length-append word (stop ∷ after))
+
+-- three words that one space each separates, and a line feed
+pub three_words_read : (text a b c rest : List ℕ) → text ≡ a ++ 32 ∷ (b ++ 32 ∷ (c ++ 10 ∷ rest))
+    → All (λ byte. 32 < byte) a × (0 < length a) → All (λ byte. 32 < byte) b × (0 < length b) → All (λ byte. 32 < byte) c × (0 < length c)
+    → IsLineRead text rest (a ∷ b ∷ c ∷ [])
+three_words_read text a b c rest split first second third =
+    let one = continues_after_space text text a (b ++ 32 ∷ (c ++ 10 ∷ rest)) [] (a ∷ []) first.0 split (next_word [] a first.1) (from_start text) in
+    let two = continues_after_space text (b ++ 32 ∷ (c ++ 10 ∷ rest)) b (c ++ 10 ∷ rest) (a ∷ []) (a ∷ b ∷ []) second.0 refl (next_word (a ∷ []) b second.1) one in
+    let within : length (c ++ 10 ∷ rest) ≤ length text
+    = omega (arith, ap length split, after_word a (b ++ 32 ∷ (c ++ 10 ∷ rest)) 32, after_word b (c ++ 10 ∷ rest) 32) in
+    read_at_feed text (c ++ 10 ∷ rest) c rest (a ∷ b ∷ []) (a ∷ b ∷ c ∷ []) third.0 refl (next_word (a ∷ b ∷ []) c third.1) within two

@@ -11,9 +11,9 @@ mod word;
 
 pub use body::{print_hex, read_body};
 pub use kind::LineKind;
-pub use line::{next_line, read_line_words};
+pub use line::{cut_word, next_line, read_line_words};
 pub use log::{print_body, print_log_head, print_log_line, service_word};
-pub use number::{numbers_are_as_printed, read_number};
+pub use number::{number_before, numbers_are_as_printed, read_number};
 use pipe_base::List;
 pub use word::{is_skipped, read_words, words_of};
 

@@ -66,8 +66,8 @@ fn add_word<'a>(words: &mut Vec<&'a [u8]>, word: &'a [u8]) -> Result<(), NoMemor
     Ok(())
 }
 
-// The bytes above the space, the first byte that is not, and what comes after it.
-fn cut_word(text: &[u8]) -> Option<(&[u8], u8, &[u8])>
+/// The bytes above the space, the first byte that is not, and what comes after it.
+pub fn cut_word(text: &[u8]) -> Option<(&[u8], u8, &[u8])>
     ensures { IfSome result (λ cut. (text.now ≡ cut.0.now ++ cut.1 ∷ cut.2.now) × All (λ byte. 32 < byte) cut.0.now) }
 {
     let at = text.iter().position(|byte| *byte <= b' ')?;

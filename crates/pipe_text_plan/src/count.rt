@@ -5,6 +5,9 @@ ghost use Rattle.pipe_text_plan.specs.Counted.{is_read, lines_read};
 use crate::word::first_word;
 use pipe_text::next_line;
 
+// The most bytes that are counted in one byte: a multiple of what the machine takes at once.
+const BLOCK: usize = 192;
+
 /// The number of lines that are not skipped: those with a word, and whose first word does not begin with `#`.
 pub fn lines_read(text: &[u8]) -> u32
     requires { length text.now < 2 ^ 31 }
@@ -40,8 +43,23 @@ fn line_feeds(text: &[u8]) -> u32
     ensures { result ≡ count_by (λ byte. byte == 10) text.now }
 {
     let mut count = 0;
-    for byte in text {
-        count += u32::from(*byte == b'\n');
+    let mut rest = text;
+    'counting: while rest.len() > BLOCK {
+        let (block, after) = rest.split_at(BLOCK);
+        count += u32::from(feeds_in_block(block));
+        rest = after;
+    }
+    count + u32::from(feeds_in_block(rest))
+}
+
+// The count is a byte, so that the machine counts at many bytes at once.
+fn feeds_in_block(block: &[u8]) -> u8
+    requires { length block.now ≤ 192 }
+    ensures { result ≡ count_by (λ byte. byte == 10) block.now }
+{
+    let mut count = 0;
+    for byte in block {
+        count += u8::from(*byte == b'\n');
     }
     count
 }

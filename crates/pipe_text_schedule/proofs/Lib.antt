@@ -1,3 +1,4 @@
 pub mod HappenLaws
 pub mod NameLaws
+pub mod PlainLaws
 pub mod ScheduleLaws

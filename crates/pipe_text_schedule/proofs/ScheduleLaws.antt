@@ -9,12 +9,17 @@ use Rattle.pipe_model.specs.declared.event.Event.{Event}
 use Rattle.pipe_text.specs.declared.kind.LineKind.{LineKind}
 use Rattle.pipe_text.specs.Words.{words_of, is_skipped}
 use Rattle.pipe_text_schedule.specs.Line.{line_event}
+use Rattle.pipe_text_schedule.specs.Plain.{IsFirstBad, IsFirstRead}
 use Rattle.pipe_text_schedule.specs.Schedule.{schedule_of, event_onto}
 
 -- events that were read before the rest
 abbrev pub after_events : List Event → Result (List Event) (ℕ × LineKind) → Result (List Event) (ℕ × LineKind)
 after_events before (Ok events) = Ok (before ++ events)
 after_events before (Err fault) = Err fault
+
+pub after_none : (all : Result (List Event) (ℕ × LineKind)) → after_events [] all ≡ all
+after_none (Ok events) = refl
+after_none (Err fault) = refl
 
 -- an event moves from the front of the rest to the end of what is read
 onto_end : (before : List Event) (event : Event) (at : ℕ) (rest : Result (List Event) (ℕ × LineKind))
@@ -51,7 +56,7 @@ schedule_event graph names before now event at text line rest all split is read 
     ∙ so_far
 
 -- one line more with these words, whose event there is unless it is skipped
-pub schedule_more : (graph : Graph) (names : List (List ℕ)) (before now : List Event) (event : Option Event) (at : ℕ) (text line rest : List ℕ)
+schedule_more : (graph : Graph) (names : List (List ℕ)) (before now : List Event) (event : Option Event) (at : ℕ) (text line rest : List ℕ)
     (words : List (List ℕ)) (all : Result (List Event) (ℕ × LineKind))
     → lines text ≡ line ∷ lines rest → words ≡ words_of line → IfNone event (is_skipped words ≡ true)
     → IfSome event (λ e. (is_skipped words ≡ false) × (line_event graph names words ≡ Ok e))
@@ -65,7 +70,7 @@ schedule_more graph names before now (Some event) at text line rest words all sp
     (ap (line_event graph names) (sym words_are) ∙ read.1) push so_far
 
 -- a line more that is bad
-pub schedule_fault : (graph : Graph) (names : List (List ℕ)) (before : List Event) (at : ℕ) (text line rest : List ℕ)
+schedule_fault : (graph : Graph) (names : List (List ℕ)) (before : List Event) (at : ℕ) (text line rest : List ℕ)
     (words : List (List ℕ)) (kind : LineKind) (all : Result (List Event) (ℕ × LineKind))
     → lines text ≡ line ∷ lines rest → words ≡ words_of line → is_skipped words ≡ false → line_event graph names words ≡ Err kind
     → after_events before (schedule_of graph names at (lines text)) ≡ all → all ≡ Err (at, kind)
@@ -80,3 +85,18 @@ pub known_more : (P : Event → Type 0) (before now : List Event) (event : Optio
     → All P now
 known_more P before now None push all one = subst (All P) (sym (push ∙ append-nil before)) all
 known_more P before now (Some event) push all one = subst (All P) (sym push) (All-push P before event all one)
+
+-- the first line more
+pub first_more : (graph : Graph) (names : List (List ℕ)) (before now : List Event) (event : Option Event) (at : ℕ) (text rest : List ℕ)
+    (all : Result (List Event) (ℕ × LineKind))
+    → IsFirstRead graph names text rest event → now ≡ before ++ option_to_list event
+    → after_events before (schedule_of graph names at (lines text)) ≡ all → after_events now (schedule_of graph names (at + 1) (lines rest)) ≡ all
+first_more graph names before now event at text rest all first push so_far =
+    schedule_more graph names before now event at text first.line.0 rest first.words all first.line.1 first.line.2 first.skipped first.event push so_far
+
+-- a first line that is bad
+pub first_fault : (graph : Graph) (names : List (List ℕ)) (before : List Event) (at : ℕ) (text : List ℕ) (kind : LineKind)
+    (all : Result (List Event) (ℕ × LineKind))
+    → IsFirstBad graph names text kind → after_events before (schedule_of graph names at (lines text)) ≡ all → all ≡ Err (at, kind)
+first_fault graph names before at text kind all first so_far =
+    schedule_fault graph names before at text first.line.0 first.rest first.words kind all first.line.1 first.line.2 first.read first.bad so_far

@@ -2,8 +2,10 @@ pub mod Control
 pub mod Failure
 pub mod Line
 pub mod Named
+pub mod Plain
 pub mod Receivers
 pub mod Schedule
 pub mod Send
+pub mod Slots
 pub mod Take
 pub mod Tick

@@ -8,9 +8,11 @@ mod exact;
 mod failure;
 mod laws;
 mod name;
+mod plain;
 mod receivers;
 mod schedule;
 mod send;
+mod slots;
 
 pub use laws::schedules_can_happen;
 pub use schedule::{ScheduleFault, read_schedule};

@@ -1,11 +1,14 @@
 // The hosts, nodes and links that words name.
-ghost use Rattle.std.specs.Prelude.{◌≡◌, ◌==◌, ◌<◌, length, position, IfSome};
+ghost use Rattle.std.specs.Prelude.{◌≡◌, ◌==◌, ◌<◌, length, position, IfSome, Some};
 ghost use Rattle.std.specs.Option.{option_map};
-ghost use Rattle.pipe_text_schedule.specs.Named.{name_in, host_in, half_of, half_at, half_in, node_in, link_in};
+ghost use Rattle.pipe_text_schedule.specs.Named.{below, name_in, host_in, half_of, half_at, half_in, node_in, link_in};
 
 use pipe_base::{HostId, LinkId, NodeId};
 use pipe_text::read_number;
 use pipe_topo::{Names, Topology};
+
+/// The last link that a word can name.
+pub const LAST_LINK: u64 = 65535;
 
 // The place of a name among the names.
 fn place_of(names: &Names, word: &[u8]) -> Option<u16>
@@ -105,8 +108,16 @@ pub fn link_named(topology: &Topology, word: &[u8]) -> Option<LinkId>
     ensures link { option_map (λ link. link.0) result ≡ link_in topology.now word.now }
     ensures known { IfSome result (λ link. link.0 < length topology.now.links) }
 {
-    match read_number(word, 65535) {
-        Some(link) if link < u64::from(topology.links()) => Some(LinkId(link as u16)),
-        _ => None,
+    link_numbered(topology, read_number(word, LAST_LINK)?)
+}
+
+pub fn link_numbered(topology: &Topology, number: u64) -> Option<LinkId>
+    ensures link { option_map (λ link. link.0) result ≡ below (length topology.now.links) (Some number) }
+    ensures known { IfSome result (λ link. link.0 < length topology.now.links) }
+{
+    if number < u64::from(topology.links()) {
+        Some(LinkId(number as u16))
+    } else {
+        None
     }
 }

@@ -1,14 +1,18 @@
 // The lines of a schedule as events.
-ghost use Rattle.std.specs.Prelude.{◌≡◌, ◌+◌, ◌++◌, ◌≤◌, ℕ, All, true, false, length, map, IfOk, IfSome, IfNone, Ok, Err, OnOk};
+ghost use Rattle.std.specs.Prelude.{◌≡◌, ◌+◌, ◌++◌, ◌<◌, ◌≤◌, ℕ, All, true, false, length, map, IfOk, IfSome, IfNone, Ok, Err, OnOk};
 ghost use Rattle.std.specs.Option.{option_to_list};
 ghost use Rattle.std.specs.Str.Lines.{lines};
 ghost use Rattle.pipe_text.specs.declared.kind.LineKind.{LineKind as Kind};
 ghost use Rattle.pipe_text.specs.Words.{is_skipped};
 ghost use Rattle.pipe_model.specs.Event.{IsOfGraph};
 ghost use Rattle.pipe_text_schedule.specs.Line.{line_event};
+ghost use Rattle.pipe_text_schedule.specs.Plain.{IsFirstBad, IsFirstRead};
 ghost use Rattle.pipe_text_schedule.specs.Schedule.{schedule_of};
+ghost use Rattle.pipe_text_schedule.specs.Slots.{AreNodes};
 
 use crate::event::read_event;
+use crate::plain::read_plain_line;
+use crate::slots::{Slot, no_slots};
 use pipe_base::{List, NoMemory};
 use pipe_model::{Event, EventList};
 use pipe_text::{LineKind, is_skipped, read_line_words};
@@ -49,12 +53,14 @@ pub fn read_schedule(
 {
     let mut events = List::new(alloc);
     let mut words = Vec::new(alloc);
+    let mut slots = no_slots();
     let mut rest = text;
     let mut line = first;
     'lines: while !rest.is_empty() {
-        let after = read_line_words(&mut words, rest)?;
-        let event = match read_line(alloc, names, topology, words.as_slice(), line) {
-            Ok(event) => event,
+        let (event, after) = match read_first_line(
+            alloc, names, topology, &mut slots, &mut words, rest, line,
+        ) {
+            Ok(read) => read,
             Err(fault) => return Err(fault),
         };
         add(&mut events, event)?;
@@ -71,6 +77,34 @@ fn add(events: &mut EventList, event: Option<Event>) -> Result<(), NoMemory>
     match event {
         Some(event) => events.push(event),
         None => Ok(()),
+    }
+}
+
+// The event of the first line, which has this number, and the text after that line. No event where the line is skipped. The
+// slots keep nodes for the lines to come, and the words are room that each line uses anew.
+fn read_first_line<'a>(
+    alloc: Global,
+    names: &Names,
+    topology: &Topology,
+    slots: &mut [Slot<'a>],
+    words: &mut Vec<&'a [u8]>,
+    text: &'a [u8],
+    line: u32,
+) -> Result<(Option<Event>, &'a [u8]), ScheduleFault>
+    requires some { 0 < length text.now }
+    requires nodes { AreNodes topology.now names.now slots.old }
+    ensures event { IfOk result (λ p. IsFirstRead topology.now names.now text.now p.1.now p.0) }
+    ensures known { IfOk result (λ p. IfSome p.0 (IsOfGraph topology.now)) }
+    ensures fault { (at : ℕ) (kind : Kind) → result ≡ Err (ScheduleFault.Line at kind) → (at ≡ line) × IsFirstBad topology.now names.now text.now kind }
+    ensures nodes { AreNodes topology.now names.now slots.new }
+{
+    if let Some((event, rest)) = read_plain_line(slots, names, topology, text) {
+        return Ok((Some(event), rest));
+    }
+    let rest = read_line_words(words, text)?;
+    match read_line(alloc, names, topology, words.as_slice(), line) {
+        Ok(event) => Ok((event, rest)),
+        Err(fault) => Err(fault),
     }
 }
 

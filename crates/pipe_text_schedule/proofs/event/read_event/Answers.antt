@@ -1,4 +1,4 @@
-use Rattle.std.proofs.Common.{rules, ◌≡◌, map, IfOk, Result, subst, sym}
+use Rattle.std.proofs.Common.{rules, ◌≡◌, IfOk, Result, subst, sym}
 use Rattle.pipe_base.specs.Graph.{Graph}
 use Rattle.pipe_model.specs.declared.event.Event.{Event}
 use Rattle.pipe_model.specs.Event.{IsOfGraph}
