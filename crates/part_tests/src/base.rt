@@ -103,10 +103,7 @@ fn fill(alloc: Global, step: &mut Step) -> Result<(), NoMemory> {
         host: HostId(4),
         time: Ts(5),
     })?;
-    match step.dropped.push_or_return(LinkId(6)) {
-        Ok(()) => Ok(()),
-        Err(_) => Err(NoMemory),
-    }
+    step.dropped.push_from(&mut LinkId(6), LinkId(0))
 }
 
 fn is_filled(step: &Step) -> bool {

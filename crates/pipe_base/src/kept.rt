@@ -1,10 +1,12 @@
 // A step as a record keeps it: most steps do one thing, and take the room of that.
-ghost use Rattle.std.specs.Prelude.{◌≡◌, IfOk, true, Some, [], ◌∷◌};
+ghost use Rattle.std.specs.Prelude.{◌≡◌, IfOk, map, true, Some, [], ◌∷◌};
 ghost use Rattle.pipe_base.specs.Kept.{step_of};
+ghost use Rattle.pipe_base.specs.Packets.{beacon};
 ghost use Rattle.pipe_base.specs.ShortestRoute.{picked};
 ghost use Rattle.pipe_base.specs.Step.{quiet_step};
-ghost use Rattle.pipe_base.specs.Ways.{with_ways};
+ghost use Rattle.pipe_base.specs.Ways.{with_beacons, with_ways};
 
+use crate::puts::{add_beacons, one_beacon};
 use crate::step::{copy_entries, copy_puts};
 use crate::{
     Addressed, Announced, Entry, Fate, LinkId, List, LoggedList, NoMemory, Outcome, Packet,
@@ -122,6 +124,28 @@ impl KeptStep {
                 step.keep(alloc)
             }
         }
+    }
+
+    /// The step that puts a beacon with these barriers on each of the links. One beacon alone takes no memory.
+    pub fn beacons(
+        alloc: Global,
+        links: &[LinkId],
+        be: Ts,
+        commit: Ts,
+    ) -> Result<KeptStep, NoMemory>
+        ensures { IfOk result (λ kept. kept ≡ with_beacons links.now (record { be = be.0; commit = commit.0 }) (quiet_step Outcome.Ok)) }
+    {
+        let form = match links {
+            [link] => Form::PutsOne {
+                stamped: None,
+                put: (*link, one_beacon(alloc, be, commit)),
+            },
+            _ => Form::Puts {
+                stamped: None,
+                put: beacons_on(alloc, links, be, commit)?,
+            },
+        };
+        Ok(KeptStep { form })
     }
 
     pub fn put(&self) -> &[(LinkId, Packet)]
@@ -310,6 +334,14 @@ impl Step {
             && self.unrouted == 0
             && matches!(self.outcome, Outcome::Ok)
     }
+}
+
+fn beacons_on(alloc: Global, links: &[LinkId], be: Ts, commit: Ts) -> Result<PutList, NoMemory>
+    ensures { IfOk result (λ puts. puts ≡ map (λ l. (l, beacon (record { be = be.0; commit = commit.0 }))) links.now) }
+{
+    let mut puts = List::new(alloc);
+    add_beacons(alloc, &mut puts, links, be, commit)?;
+    Ok(puts)
 }
 
 // The form of a step that put these packets. One alone takes no list.

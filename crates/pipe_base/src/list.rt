@@ -1,11 +1,12 @@
 // One list type for all lists that a contract sees: a `Vec` that is seen as its items.
-ghost use Rattle.std.specs.Prelude.{◌≡◌, ◌==◌, [], ◌∷◌, ◌++◌, length, slice_get, IfOk, IfErr, OnOk, OnErr};
+ghost use Rattle.std.specs.Prelude.{◌≡◌, ◌==◌, [], ◌∷◌, ◌++◌, length, slice_get, IfOk, OnOk, OnErr};
 ghost use Rattle.std.specs.List.{AllZip};
 ghost use Rattle.std.specs.Option.{option_copied};
 
 use crate::NoMemory;
 use std::alloc::Global;
 use std::marker::Model;
+use std::mem;
 
 /// A list that grows at its end.
 #[derive(Clone, Debug, Drop)]
@@ -56,17 +57,6 @@ impl<T> List<T> {
         self.items
     }
 
-    /// Hands the item back where there is no memory.
-    pub fn push_or_return(&mut self, item: T) -> Result<(), T>
-        ensures ok { OnOk result (self.new ≡ self.old ++ item ∷ []) }
-        ensures err { IfErr result (λ back. (back ≡ item) × (self.new ≡ self.old)) }
-    {
-        match self.items.push(item) {
-            Ok(()) => Ok(()),
-            Err(failed) => Err(failed.value),
-        }
-    }
-
     pub fn len(&self) -> usize
         ensures { result ≡ length self.now }
     {
@@ -99,6 +89,17 @@ impl<T: Drop> List<T> {
         ensures err { OnErr result (self.new ≡ self.old) }
     {
         self.items.push(item)?;
+        Ok(())
+    }
+
+    /// Moves the item at a place to the end, and leaves another at the place. Where there is no memory it stays: nothing that is
+    /// large is handed back.
+    pub fn push_from(&mut self, place: &mut T, left: T) -> Result<(), NoMemory>
+        ensures ok { OnOk result (self.new ≡ self.old ++ place.old ∷ []) }
+        ensures err { OnErr result ((self.new ≡ self.old) × (place.new ≡ place.old)) }
+    {
+        self.items.reserve(1)?;
+        self.items.push_reserved(mem::replace(place, left));
         Ok(())
     }
 }

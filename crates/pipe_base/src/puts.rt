@@ -1,10 +1,10 @@
 // What a step puts: packets on their ways, and beacons.
-ghost use Rattle.std.specs.Prelude.{◌≡◌, ◌+◌, ◌<◌, ◌^◌, [], ◌∷◌, OnErr, OnOk};
+ghost use Rattle.std.specs.Prelude.{◌≡◌, ◌+◌, ◌++◌, ◌<◌, ◌^◌, [], ◌∷◌, map, OnErr, OnOk};
 ghost use Rattle.pipe_base.specs.Packets.{beacon};
 ghost use Rattle.pipe_base.specs.ShortestRoute.{picked};
 ghost use Rattle.pipe_base.specs.Ways.{PutsAlone, with_beacons, with_ways};
 
-use crate::{Body, HostId, LinkId, NoMemory, Packet, PacketKind, Router, Step, Ts};
+use crate::{Body, HostId, LinkId, NoMemory, Packet, PacketKind, PutList, Router, Step, Ts};
 use std::alloc::Global;
 
 impl Step {
@@ -37,15 +37,29 @@ impl Step {
         ensures ok { OnOk result (self.new ≡ with_beacons links.now (record { be = be.0; commit = commit.0 }) self.old) }
         ensures err { OnErr result (PutsAlone self.old self.new) }
     {
-        self.put.reserve(links.len())?;
-        'links: for link in links {
-            self.put.push((*link, one_beacon(alloc, be, commit)))?;
-        }
-        Ok(())
+        add_beacons(alloc, &mut self.put, links, be, commit)
     }
 }
 
-fn one_beacon(alloc: Global, be: Ts, commit: Ts) -> Packet
+/// Appends a beacon with these barriers for each of the links.
+pub(crate) fn add_beacons(
+    alloc: Global,
+    puts: &mut PutList,
+    links: &[LinkId],
+    be: Ts,
+    commit: Ts,
+) -> Result<(), NoMemory>
+    ensures { OnOk result (puts.new ≡ puts.old ++ map (λ l. (l, beacon (record { be = be.0; commit = commit.0 }))) links.now) }
+{
+    puts.reserve(links.len())?;
+    'links: for link in links {
+        puts.push((*link, one_beacon(alloc, be, commit)))?;
+    }
+    Ok(())
+}
+
+/// A beacon with these barriers.
+pub(crate) fn one_beacon(alloc: Global, be: Ts, commit: Ts) -> Packet
     ensures { result ≡ beacon (record { be = be.0; commit = commit.0 }) }
 {
     Packet {

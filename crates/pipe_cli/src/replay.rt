@@ -1,11 +1,12 @@
 // A replay: the events of an input, run one by one, and the text of the run.
-ghost use Rattle.std.specs.Prelude.{◌≡◌, ◌≤◌, ℕ, All, List, [], length, map, vec_len, IfOk, IfErr, OnOk};
+ghost use Rattle.std.specs.Prelude.{◌≡◌, ◌≤◌, ℕ, All, List, [], length, map, IfOk, IfErr, OnOk};
+ghost use Rattle.std.specs.VecDeque.{deque_len};
 ghost use Rattle.pipe_base.specs.Limits.{most_bytes};
 ghost use Rattle.pipe_model.specs.Run.{event_of};
 ghost use Rattle.pipe_text_input.specs.Content.{content_of};
 ghost use Rattle.pipe_text_input.specs.Read.{IsRead};
 ghost use Rattle.pipe_model.specs.Event.{IsOfGraph};
-ghost use Rattle.pipe_cli.specs.Replay.{IsRefusal, Replays, replay_text};
+ghost use Rattle.pipe_cli.specs.Replay.{IsOrderedRun, IsRefusal, Replays, replay_text};
 ghost use Rattle.pipe_cli.specs.Running.{IsStopped};
 
 use crate::read::INPUT_LIMIT;
@@ -20,6 +21,7 @@ use pipe_text_trace::print_trace;
 use pipe_topo::{Names, Topology};
 use pipe_world::{StepFault, World};
 use std::alloc::Global;
+use std::collections::VecDeque;
 
 /// What happened, and its text.
 #[derive(Drop)]
@@ -58,22 +60,42 @@ fn run_input(alloc: Global, form: Form, input: Input) -> Result<Replayed, Status
         events,
         ..
     } = input;
-    let Ok(mut world) = World::new(alloc, topology) else {
+    let Ok(world) = World::new(alloc, topology) else {
         return Err(Status::NoMemory);
     };
-    match run_events(&mut world, events) {
-        Ok(()) => {}
-        Err(StepFault::NoMemory) => return Err(Status::NoMemory),
-        Err(StepFault::Full { items }) => {
-            return Err(Status::TooLong {
-                what: Size::Items,
-                count: items,
-            });
-        }
+    match run_all(world, events) {
+        Ok(world) => match show(alloc, form, &names, world) {
+            Ok(done) => Ok(done),
+            Err(NoMemory) => Err(Status::NoMemory),
+        },
+        Err(StepFault::NoMemory) => Err(Status::NoMemory),
+        Err(StepFault::Full { items }) => Err(Status::TooLong {
+            what: Size::Items,
+            count: items,
+        }),
     }
-    let Ok(text) = text_of(alloc, form, &names, world.topology(), world.trace()) else {
-        return Err(Status::NoMemory);
-    };
+}
+
+/// The world after all these events, or why they do not all happen.
+fn run_all(mut world: World, events: EventList) -> Result<World, StepFault>
+    requires fresh { world.trace ≡ [] }
+    requires known { All (IsOfGraph world.graph) events }
+    ensures graph { IfOk result (λ after. after.graph ≡ world.graph) }
+    ensures ran { IfOk result (λ after. map event_of after.trace ≡ events) }
+    ensures stopped { IfErr result (λ fault. (items : ℕ) → fault ≡ StepFault.Full items → IsStopped world.graph events items) }
+{
+    match run_events(&mut world, events) {
+        Ok(()) => Ok(world),
+        Err(fault) => Err(fault),
+    }
+}
+
+/// The text of what happened in a world, and its trace.
+fn show(alloc: Global, form: Form, names: &Names, world: World) -> Result<Replayed, NoMemory>
+    ensures run { IfOk result (λ done. IsOrderedRun world.graph (map event_of world.trace) done.trace) }
+    ensures text { IfOk result (λ done. done.text ≡ replay_text form names.now world.graph done.trace) }
+{
+    let text = text_of(alloc, form, names, world.topology(), world.trace())?;
     Ok(Replayed {
         trace: world.into_trace(),
         text,
@@ -109,9 +131,8 @@ fn run_events(world: &mut World, events: EventList) -> Result<(), StepFault>
     ensures ran { OnOk result (map event_of world.new.trace ≡ events) }
     ensures stopped { IfErr result (λ fault. (items : ℕ) → fault ≡ StepFault.Full items → IsStopped world.old.graph events items) }
 {
-    let mut left = events.into_vec();
-    left.reverse();
-    'running: while let Some(event) = left.pop() {
+    let mut left = VecDeque::from_vec(events.into_vec());
+    'running: while let Some(event) = left.pop_front() {
         world.step(event)?;
         give_back(&mut left);
     }
@@ -119,9 +140,9 @@ fn run_events(world: &mut World, events: EventList) -> Result<(), StepFault>
 }
 
 /// Gives the room of the events that have happened back, once it is half of all.
-fn give_back(left: &mut Vec<Event>)
+fn give_back(left: &mut VecDeque<Event>)
     ensures items { left.new.items ≡ left.old.items }
-    ensures len { vec_len left.new ≡ vec_len left.old }
+    ensures len { deque_len left.new ≡ deque_len left.old }
 {
     if left.len() < left.capacity() / 2 {
         left.shrink_to_fit();

@@ -1,6 +1,6 @@
 -- That what a host does with a packet, at a tick and with a control message is what it owes.
 use Rattle.std.proofs.Common.{◌≡◌, ℕ, ◌-◌, ◌==◌, ◌&&◌, ◌||◌, not, nat_lt, if◌then◌else◌, Bool, true, false, List, [], ◌∷◌, ◌++◌, length, drop, map, Option, None, Some, refl, sym, subst, ap, ap₂, ◌∙◌, arith, append-nil, add-zero, zero-add, inl, inr}
-use Rattle.std.specs.Prelude.{is_some, unwrap_or}
+use Rattle.std.specs.Prelude.{flat_map, is_some, unwrap_or}
 use Rattle.std.proofs.lemmas.List.{length-append}
 use Rattle.std.proofs.Math.Seq.{drop-append_seam}
 use Rattle.pipe_base.specs.declared.control.Addressed.{Addressed}
@@ -28,9 +28,9 @@ use Rattle.pipe_base.specs.Graph.{Graph, ins_of, is_host}
 use Rattle.pipe_base.specs.Moment.{Moment, Received, is_up, with_received, with_downed, with_dropped}
 use Rattle.pipe_base.specs.Packets.{Fields, ack_to, beacon, recall_ack_to}
 use Rattle.pipe_base.specs.Promise.{promise_of}
-use Rattle.pipe_base.specs.Resends.{resends}
-use Rattle.pipe_base.specs.Scattering.{SenderCall}
-use Rattle.pipe_base.specs.Settled.{is_recalling}
+use Rattle.pipe_base.specs.Resends.{resends, resends_for}
+use Rattle.pipe_base.specs.Scattering.{Scattering, SenderCall}
+use Rattle.pipe_base.specs.Settled.{is_recalling, unsettled}
 use Rattle.pipe_base.specs.ShortestRoute.{route}
 use Rattle.pipe_base.specs.Silence.{silent_marks}
 use Rattle.pipe_base.specs.Step.{quiet_step}
@@ -59,8 +59,8 @@ use Rattle.pipe_relsend.proofs.SendingLaws.{promise_first}
 use Rattle.pipe_host.specs.declared.host.Host.{Host}
 use Rattle.pipe_host.specs.declared.buffers.Buffers.{Buffers}
 use Rattle.pipe_host.specs.Buffers.{all_noting, fate_among, last_of, logged_by}
-use Rattle.pipe_host.specs.Host.{HasReceiver, Stands, StandsTaking, StandsWith, buffers_for, buffers_with}
-use Rattle.pipe_host.specs.Steps.{IsObeying, IsReceipt, answers_as, answers_for, fields_after, response, taken, ticked, told}
+use Rattle.pipe_host.specs.Host.{HasReceiver, Stands, StandsTaking, StandsWith, Works, buffers_for, buffers_with}
+use Rattle.pipe_host.specs.Steps.{IsObeying, IsReceipt, answers_as, answers_for, beat, fields_after, fields_ticked, response, taken, ticked, told}
 use Rattle.pipe_host.proofs.HeldLaws.{Brought, brought}
 use Rattle.pipe_host.proofs.RecordLaws.{fate_with, logs, still_buffers, still_fate, still_logged}
 
@@ -347,6 +347,33 @@ ticks graph node own now marks tells b n k step stands marks_are tells_are are n
           ∙ ap (lost (route graph known node.0)) owes);
       control_is = control_is;
     })
+
+-- what is put again where all is settled
+again_none : (calls : List SenderCall) (src : HostId) (f : Fields) (pending : List Scattering) → length pending ≡ 0 → flat_map (resends_for calls src f) pending ≡ []
+again_none calls src f [] none = refl
+again_none calls src f (s ∷ pending) none = absurd (omega (arith, none))
+
+-- where all is settled, a tick leads to beacons alone
+pub none_again : (graph : Graph) (node : ℕ) (own : List Record) (f : Fields) → length (unsettled (sender_calls graph node own)) ≡ 0
+    → with_beacons (outs_left graph node (known_drops own)) f (quiet_step Ok) ≡ beat graph node own f [] [] []
+none_again graph node own f settled =
+    let calls : List SenderCall = sender_calls graph node own in
+    ap (λ (ps : List Packet). with_beacons (outs_left graph node (known_drops own)) f (with_ways (route graph (known_drops own) node) ps (quiet_step Ok)))
+    (sym (again_none calls (record { 0 = node }) f (unsettled calls) settled))
+
+-- A tick that is worked out is what the host owes, and the host is ready to follow it.
+pub ticked_works : (graph : Graph) (node : NodeId) (own : List Record) (now : Ts) (marks : List (LinkId × Ts)) (tells : List Addressed) (b : Barriers) (k : Host) (step : Step)
+    → Stands graph node.0 own k → marks ≡ silent_marks graph.patience (ins_of graph node.0) (moments_of own) (quiet_calls own) now.0
+    → tells ≡ (downs (ins_of graph node.0) (with_downed marks (moments_of own)) ++ done_told graph node.0 own) ++ gone_told node.0 own
+    → AreBarriers (ins_of graph node.0) (with_downed marks (moments_of own)) b
+    → step ≡ beat graph node.0 own (fields_ticked graph node.0 own now (logged_by b k.held)) marks tells (logged_by b k.held)
+    → Works graph node.0 own (ticked node now step) k
+ticked_works graph node own now marks tells b k step stands marks_are tells_are are step_is =
+    let f : Fields = fields_ticked graph node.0 own now (logged_by b k.held) in
+    record {
+      rules = ticks graph node own now marks tells b (next_after (next own) now.0 None (logged_by b k.held)) k step stands marks_are tells_are are refl f (λ i. f) step_is;
+      stands = still_ready graph node.0 own (ticked node now step) k stands tt refl (ap (λ (s : Step). s.noted) step_is) (ap (λ (s : Step). s.dropped) step_is) stands.sender_is tt;
+    }
 
 -- the last ones of a list that was made longer
 last_new : (news noted : List Announced) (count : ℕ) → count ≡ length news → last_of count (noted ++ news) ≡ news

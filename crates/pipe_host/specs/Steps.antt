@@ -1,5 +1,6 @@
 -- What a host works out of a send, a packet, a tick and a control message, in terms of what it keeps.
 use Rattle.std.specs.Prelude.{◌≡◌, ℕ, ◌==◌, ◌&&◌, if◌then◌else◌, Bool, max, List, [], ◌∷◌, Option, None, Some}
+use Rattle.pipe_base.specs.declared.control.Addressed.{Addressed}
 use Rattle.pipe_base.specs.declared.control.Control.{Control}
 use Rattle.pipe_base.specs.declared.control.To.TheVariants.{Node}
 use Rattle.pipe_base.specs.declared.message.Entry.{Entry}
@@ -14,24 +15,29 @@ use Rattle.pipe_base.specs.declared.packet.PacketKind.{PacketKind}
 use Rattle.pipe_base.specs.declared.step.Fate.{Fate}
 use Rattle.pipe_base.specs.declared.step.Outcome.TheVariants.{Ok}
 use Rattle.pipe_base.specs.declared.step.Step.{Step}
-use Rattle.pipe_base.specs.Clock.{after_logged}
+use Rattle.pipe_base.specs.Clock.{after_logged, next_after}
 use Rattle.pipe_base.specs.Fate.{is_holding}
 use Rattle.pipe_base.specs.Graph.{Graph, ins_of}
 use Rattle.pipe_base.specs.Moment.{Received, with_downed, with_dropped}
 use Rattle.pipe_base.specs.Packets.{Fields, ack_to, recall_ack_to}
+use Rattle.pipe_base.specs.Promise.{promise_of}
+use Rattle.pipe_base.specs.Resends.{resends}
 use Rattle.pipe_base.specs.ShortestRoute.{route}
 use Rattle.pipe_base.specs.Step.{quiet_step}
-use Rattle.pipe_base.specs.Ways.{with_ways}
+use Rattle.pipe_base.specs.Ways.{with_beacons, with_ways}
 use Rattle.pipe_barrier.specs.declared.registers.Barriers.{Barriers}
 use Rattle.pipe_barrier.specs.Registers.{AreBarriers}
 use Rattle.pipe_links.specs.Links as links
+use Rattle.pipe_links.specs.Ways.{outs_left}
 use Rattle.pipe_model.specs.declared.event.Event.TheVariants.{ControlTake, Send, Take, Tick}
 use Rattle.pipe_model.specs.declared.record.Record.{Record}
 use Rattle.pipe_model.specs.declared.record.Took.TheVariants.{Link, Message, Nothing}
+use Rattle.pipe_model.specs.Clock.{next}
 use Rattle.pipe_model.specs.Got.{carries}
 use Rattle.pipe_model.specs.Marks.{told_marks}
 use Rattle.pipe_model.specs.Moments.{known_drops, moments_of}
 use Rattle.pipe_model.specs.Recalls.{is_recall}
+use Rattle.pipe_model.specs.Sender.{sender_calls}
 use Rattle.pipe_relsend.specs.Pending.{Pending}
 use Rattle.pipe_relsend.specs.Sending.{first_or}
 use Rattle.pipe_host.specs.declared.host.Host.{Host}
@@ -102,3 +108,16 @@ pub record IsObeying (k : Host) (control : Control) (drops : List LinkId) (count
     noted = last_of count k.held.reliable.failed;
     logged = logged_by barriers k.held;
   }
+
+-- the two barriers of a host's packets after a tick that reads this and logs these entries
+abbrev pub fields_ticked : Graph → ℕ → List Record → Ts → List (Service × Entry) → Fields
+fields_ticked graph node own now log =
+    record { be = next_after (next own) now.0 None log; commit = promise_of (next_after (next own) now.0 None log) (sender_calls graph node own) }
+
+-- The step of a tick with these fields: links go down, the controller is told this, these entries are logged, what is not
+-- answered is put again, and each link out has a beacon.
+abbrev pub beat : Graph → ℕ → List Record → Fields → List (LinkId × Ts) → List Addressed → List (Service × Entry) → Step
+beat graph node own f downed told log =
+    with_beacons (outs_left graph node (known_drops own)) f
+    (with_ways (route graph (known_drops own) node) (resends (sender_calls graph node own) (record { 0 = node }) f)
+    (record (quiet_step Ok) { downed = downed; control = told; logged = log }))

@@ -1,7 +1,9 @@
 -- What is kept of the links of a node, and what it stands for.
-use Rattle.std.specs.Prelude.{◌≡◌, ℕ, ◌<◌, List, ◌∷◌, None, unwrap_or}
+use Rattle.std.specs.Prelude.{◌≡◌, ℕ, ◌<◌, Bool, true, false, List, ◌∷◌, None, unwrap_or}
 use Rattle.pipe_base.specs.declared.packet.Packet.{Packet}
 use Rattle.pipe_base.specs.declared.packet.Plane.TheVariants as plane
+use Rattle.pipe_base.specs.declared.step.Outcome.{Outcome}
+use Rattle.pipe_base.specs.declared.step.Outcome.TheVariants.{Ignored}
 use Rattle.pipe_base.specs.Graph.{Graph, ins_of}
 use Rattle.pipe_barrier.specs.declared.in_links.InLinks.{InLinks}
 use Rattle.pipe_barrier.specs.declared.registers.Barriers.{Barriers}
@@ -44,3 +46,8 @@ pub record AreBarriersAt (graph : Graph) (node : ℕ) (own : List Record) (b : B
 -- a received packet, as its link and its two barriers
 abbrev pub receipt_of : (ℕ × Packet) → Receipt
 receipt_of q = record { link = record { 0 = q.0 }; be = q.1.be; commit = q.1.commit }
+
+-- the packet of a take is not looked at
+abbrev pub is_ignored : Outcome → Bool
+is_ignored Ignored = true
+is_ignored _ = false

@@ -16,7 +16,7 @@ ghost use Rattle.pipe_model.specs.Duties.{gone_told};
 ghost use Rattle.pipe_model.specs.Marks.{told_drops, told_marks};
 ghost use Rattle.pipe_model.specs.Moments.{known_drops, moments_of, quiet_calls, received, tick_of};
 ghost use Rattle.pipe_model.specs.Run.{IsNodeStep};
-ghost use Rattle.pipe_links.specs.Links.{AreBarriersAt, InsStand, Stands, StandsWith, receipt_of};
+ghost use Rattle.pipe_links.specs.Links.{AreBarriersAt, InsStand, Stands, StandsWith, is_ignored, next_ways, receipt_of};
 ghost use Rattle.pipe_links.specs.Ways.{AreWays};
 
 use crate::known::Known;
@@ -238,6 +238,14 @@ impl Links {
         step.put_beacons(alloc, self.ways.outs.as_slice(), be, commit)
     }
 
+    /// The step that puts a beacon with these barriers on each link out of the node that is not known as dropped, and nothing
+    /// else.
+    pub fn send_beacons(&self, alloc: Global, be: Ts, commit: Ts) -> Result<KeptStep, NoMemory>
+        ensures { IfOk result (λ step. step ≡ with_beacons self.now.ways.outs (record { be = be.0; commit = commit.0 }) (quiet_step Outcome.Ok)) }
+    {
+        KeptStep::beacons(alloc, self.ways.outs.as_slice(), be, commit)
+    }
+
     /// Tells the controller how many links are known as dropped, where there are any.
     pub fn tell_gone(&self, told: &mut AddressedList) -> Result<(), NoMemory>
         ensures ok { OnOk result ((graph : Graph) (node : ℕ) (own : List ARecord) → Stands graph node own self.now
@@ -263,6 +271,15 @@ impl Links {
             → IsNodeStep graph node own made.now → Stands graph node (made.now ∷ own) self.new }
     {
         follow(&mut self.ins, made);
+        if self.ahead.is_some() {
+            self.change_ways();
+        }
+    }
+
+    /// Takes the ways over that were set aside, which is seldom: they are large to move.
+    fn change_ways(&mut self)
+        ensures { self.new ≡ record self.old { ways = next_ways self.old; ahead = None } }
+    {
         if let Some(ways) = self.ahead.take() {
             self.ways = ways;
         }
@@ -292,7 +309,7 @@ fn follow(ins: &mut InLinks, made: &Record)
     ensures { (graph : Graph) (node : ℕ) (own : List ARecord) → InsStand graph node own ins.old → ComesIn graph node made.now.event
         → IsNodeStep graph node own made.now → InsStand graph node (made.now ∷ own) ins.new }
 {
-    match received(ins, made) {
+    match received(made) {
         Some(receipt) => ins.receive(receipt.link, receipt.be, receipt.commit),
         None => match tick_of(&made.event) {
             Some(now) => ins.tick(now, made.step.downed()),
@@ -304,10 +321,9 @@ fn follow(ins: &mut InLinks, made: &Record)
     }
 }
 
-/// What the record received: a packet that was taken from a link that is up.
-fn received(ins: &InLinks, made: &Record) -> Option<Receipt>
-    ensures { (graph : Graph) (node : ℕ) (own : List ARecord) → InsStand graph node own ins.now → ComesIn graph node made.now.event
-        → result ≡ option_map receipt_of (received own made.now) }
+/// What the record received: a packet that was taken from a link that is up. On any other link the packet is ignored.
+fn received(made: &Record) -> Option<Receipt>
+    ensures { (graph : Graph) (node : ℕ) (own : List ARecord) → IsNodeStep graph node own made.now → result ≡ option_map receipt_of (received own made.now) }
 {
     let Event::Take { link, .. } = &made.event else {
         return None;
@@ -315,7 +331,7 @@ fn received(ins: &InLinks, made: &Record) -> Option<Receipt>
     let Took::Link { link: from, packet } = &made.took else {
         return None;
     };
-    if from.0 != link.0 || !ins.is_up(*link) {
+    if from.0 != link.0 || is_ignored(made.step.outcome()) {
         return None;
     }
     Some(Receipt {
@@ -323,6 +339,12 @@ fn received(ins: &InLinks, made: &Record) -> Option<Receipt>
         be: packet.be,
         commit: packet.commit,
     })
+}
+
+fn is_ignored(outcome: Outcome) -> bool
+    ensures { result ≡ is_ignored outcome }
+{
+    matches!(outcome, Outcome::Ignored)
 }
 
 /// The reading of a tick.

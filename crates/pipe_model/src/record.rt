@@ -1,7 +1,7 @@
 // What happened: an event with what was taken and what the acting node did.
 
 use crate::Event;
-use pipe_base::{Addressed, KeptStep, LinkId, List, NoMemory, Packet};
+use pipe_base::{Addressed, KeptStep, LinkId, List, NoMemory, Outcome, Packet};
 
 /// What an event took from where it waited.
 #[derive(Clone, Debug, Drop)]
@@ -34,6 +34,15 @@ impl Took {
 
 impl Record {
     ghost use Rattle.std.specs.Prelude.{◌≡◌, IfOk};
+
+    /// The record of a decision in which nothing was decided. It takes the place of one that is moved away.
+    pub fn idle() -> Record {
+        Record {
+            event: Event::Decide,
+            took: Took::Nothing,
+            step: KeptStep::quiet(Outcome::Ok),
+        }
+    }
 
     pub fn try_clone(&self) -> Result<Record, NoMemory>
         ensures { IfOk result (λ copy. copy ≡ self.now) }

@@ -1,5 +1,6 @@
 // The blocks in which a list keeps its items.
-ghost use Rattle.std.specs.Prelude.{◌≡◌, ◌<◌, ◌++◌, ◌∷◌, [], ℕ, Some, length, slice_get, remove, OnOk, OnErr};
+ghost use Rattle.std.specs.Prelude.{◌≡◌, ◌<◌, ◌↔◌, ◌++◌, ◌∷◌, [], ℕ, Some, length, slice_get, slice_index_or, remove, IfSome, IsSome, OnSome, OnOk, OnErr};
+ghost use Rattle.std.specs.VecDeque.{deque_len};
 ghost use Rattle.pipe_net.specs.Blocks.{IsPlace, joined};
 
 use pipe_base::NoMemory;
@@ -72,9 +73,22 @@ pub fn take<T: Drop>(blocks: &mut Blocks<T>, place: Place) -> Option<T>
     ensures left { (n : ℕ) → IsPlace blocks.old.items n place → joined blocks.new.items ≡ remove (joined blocks.old.items) n }
 {
     let block = &mut blocks[place.block];
-    let item = block.remove(place.at);
+    let item = remove(block, place.at);
     if block.is_empty() && blocks.len() > 1 {
         blocks.remove(place.block);
     }
     item
+}
+
+/// Takes the item at a place of a block out. The first one, as mostly, leaves without a look at the others.
+fn remove<T>(block: &mut VecDeque<T>, at: usize) -> Option<T>
+    ensures value { IfSome result (λ item. item ≡ slice_index_or block.old.items at item) }
+    ensures items { OnSome result (block.new.items ≡ remove block.old.items at) }
+    ensures variant { IsSome result ↔ (at < deque_len block.old) }
+{
+    if at == 0 {
+        block.pop_front()
+    } else {
+        block.remove(at)
+    }
 }

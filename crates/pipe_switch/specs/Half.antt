@@ -1,5 +1,6 @@
 -- What a half of a switch keeps, and what it stands for.
 use Rattle.std.specs.Prelude.{◌≡◌, ℕ, if◌then◌else◌, Bool, true, List, [], ◌∷◌}
+use Rattle.pipe_base.specs.declared.control.Addressed.{Addressed}
 use Rattle.pipe_base.specs.declared.control.Control.{Control}
 use Rattle.pipe_base.specs.declared.control.To.TheVariants.{Node}
 use Rattle.pipe_base.specs.declared.name.LinkId.{LinkId}
@@ -13,7 +14,7 @@ use Rattle.pipe_base.specs.Moment.{Received}
 use Rattle.pipe_base.specs.Packets.{forwarded}
 use Rattle.pipe_base.specs.ShortestRoute.{route}
 use Rattle.pipe_base.specs.Step.{quiet_step}
-use Rattle.pipe_base.specs.Ways.{with_ways}
+use Rattle.pipe_base.specs.Ways.{with_beacons, with_ways}
 use Rattle.pipe_barrier.specs.declared.registers.Barriers.{Barriers}
 use Rattle.pipe_barrier.specs.Registers.{AreBarriers}
 use Rattle.pipe_links.specs.Links as links
@@ -46,6 +47,10 @@ ticked node now step = record { event = Tick node now; took = Nothing; step = st
 -- a node was told this by a control message
 abbrev pub told : NodeId → Control → ℕ → Bool → Step → Record
 told node control place keep step = record { event = ControlTake place keep; took = Message (record { to = Node node; control = control }); step = step }
+
+-- the step of a tick: links go down, the controller is told this, and each of the links out has a beacon with these barriers
+abbrev pub beat : List LinkId → Barriers → List (LinkId × Ts) → List Addressed → Step
+beat outs b downed told = with_beacons outs (record { be = b.be.0; commit = b.commit.0 }) (record (quiet_step Ok) { downed = downed; control = told })
 
 -- the packets that a half owes for a packet that it received: a beacon goes no further
 abbrev pub passed_on : Barriers → Packet → List Packet

@@ -10,12 +10,12 @@ ghost use Rattle.pipe_model.specs.Acting.{ComesIn};
 ghost use Rattle.pipe_model.specs.Got.{is_beacon};
 ghost use Rattle.pipe_model.specs.Moments.{moments_of};
 ghost use Rattle.pipe_model.specs.Run.{IsNodeStep};
-ghost use Rattle.pipe_switch.specs.Half.{Does, IsPassing, Stands, StandsWith, Works, taken, ticked, told};
+ghost use Rattle.pipe_switch.specs.Half.{Does, IsPassing, Stands, StandsWith, Works, beat, taken, ticked, told};
 
 use pipe_barrier::{Barriers, Registers};
 use pipe_base::{
-    Addressed, Control, KeptStep, LinkId, NoMemory, NodeId, Outcome, Packet, PacketKind, PutRoom,
-    Step, To, Ts,
+    Addressed, AddressedList, Control, DownList, KeptStep, LinkId, NoMemory, NodeId, Outcome,
+    Packet, PacketKind, PutRoom, Step, To, Ts,
 };
 use pipe_links::Links;
 use pipe_model::{Event, Record, Took};
@@ -94,11 +94,31 @@ impl Half {
         ensures { IfOk result (λ step. (graph : Graph) (node : NodeId) (own : List ARecord) → Stands graph node.0 own self.now
             → Works graph node.0 own (ticked node now step) self.now) }
     {
+        let downed = self.links.silent_marks(self.alloc, now)?;
+        let mut told = self.links.downs_with(self.alloc, &downed)?;
+        self.links.tell_gone(&mut told)?;
+        let barriers = self.links.barriers_without(&downed)?;
+        self.beat(downed, told, barriers)
+    }
+
+    /// The step that takes these links down, tells the controller this, and puts a beacon with these barriers on each link out.
+    /// Mostly there are beacons alone, which takes no step in lists.
+    fn beat(
+        &self,
+        downed: DownList,
+        told: AddressedList,
+        barriers: Barriers,
+    ) -> Result<KeptStep, NoMemory>
+        ensures { IfOk result (λ step. step ≡ beat self.now.links.ways.outs barriers downed told) }
+    {
+        if downed.is_empty() && told.is_empty() {
+            return self
+                .links
+                .send_beacons(self.alloc, barriers.be, barriers.commit);
+        }
         let mut step = Step::new(self.alloc);
-        step.downed = self.links.silent_marks(self.alloc, now)?;
-        step.control = self.links.downs_with(self.alloc, &step.downed)?;
-        self.links.tell_gone(&mut step.control)?;
-        let barriers = self.links.barriers_without(&step.downed)?;
+        step.downed = downed;
+        step.control = told;
         self.links
             .put_beacons(self.alloc, barriers.be, barriers.commit, &mut step)?;
         step.keep(self.alloc)

@@ -5,7 +5,6 @@ use Rattle.pipe_base.specs.Limits.{most_items}
 use Rattle.pipe_model.specs.Items.{IsOver, items_in, items_of}
 use Rattle.pipe_world.specs.declared.fault.StepFault.{StepFault}
 use Rattle.pipe_world.specs.declared.fault.StepFault.TheVariants.{Full}
-use Rattle.pipe_world.specs.declared.history.Refused.{Refused}
 
 -- the count is of what was put, and within the limit
 pub record IsCounted (items : ℕ) (trace : List Record) : Type 0 where
@@ -15,12 +14,6 @@ pub record IsCounted (items : ℕ) (trace : List Record) : Type 0 where
 -- where a fault is that there is too much, the record would have been too much
 abbrev pub FullBy : List Record → Record → StepFault → Type 0
 FullBy trace r fault = (items : ℕ) → fault ≡ Full items → IsOver trace r items
-
--- the record was handed back, nothing was appended
-pub record IsRefused (old new : List Record) (r : Record) (refused : Refused) : Type 0 where
-  pub record_is : refused.«record» ≡ r
-  pub same : new ≡ old
-  pub full : FullBy old r refused.fault
 
 -- too much is told as such, whether there is memory or not
 abbrev pub IsToldFull : List Record → Record → StepFault → Type 0

@@ -1,5 +1,5 @@
 -- Whose turn it is in an event: which node acts and what is taken, or that no node does anything.
-use Rattle.std.specs.Prelude.{◌≡◌, ℕ, ◌<◌, nat_lt, Bool, true, false, List, ◌∷◌, length, slice_get, slice_index_or}
+use Rattle.std.specs.Prelude.{◌≡◌, ℕ, ◌<◌, nat_lt, Bool, true, false, List, ◌∷◌, Option, None, Some, length, slice_get, slice_index_or}
 use Rattle.pipe_base.specs.declared.control.Addressed.{Addressed}
 use Rattle.pipe_base.specs.declared.control.Control.{Control}
 use Rattle.pipe_base.specs.declared.control.To.{To}
@@ -62,6 +62,11 @@ abbrev pub IsItem : Event → Took → Type 0
 IsItem (Take link place keep) took = (p : Packet) × (took ≡ Link link p)
 IsItem (ControlTake place keep) took = IsMessage took
 IsItem _ took = took ≡ Nothing
+
+-- the answer to what the event takes: nothing waits at the place that it names, or this is taken
+abbrev pub IsFound : Waits → Event → Option Took → Type 0
+IsFound waits event None = is_there waits event ≡ false
+IsFound waits event (Some took) = (is_there waits event ≡ true) × (took ≡ taken_of waits event) × IsItem event took
 
 -- a control message goes to the controller or to a node of the network
 abbrev pub IsAddressee : Graph → To → Type 0

@@ -69,17 +69,17 @@ fn decide(
     let Ok((step, change)) = controller.work_step(topology) else {
         return Err(StepFault::NoMemory);
     };
-    let made = Record {
+    let mut made = Record {
         event: Event::Decide,
         took: Took::Nothing,
         step,
     };
-    match enter(queues, history, made) {
+    match enter(queues, history, &mut made) {
         Ok(()) => {
             controller.follow(change);
             Ok(())
         }
-        Err(refused) => Err(refused.fault),
+        Err(fault) => Err(fault),
     }
 }
 

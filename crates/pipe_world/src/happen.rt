@@ -68,15 +68,12 @@ fn pass_by(
     ensures err { OnErr result ((history.new ≡ history.old) × (queues.new ≡ queues.old)) }
     ensures full { IfErr result (FullBy history.old (passing_record event took outcome)) }
 {
-    let made = Record {
+    let mut made = Record {
         event,
         took,
         step: KeptStep::quiet(outcome),
     };
-    match enter(queues, history, made) {
-        Ok(()) => Ok(()),
-        Err(refused) => Err(refused.fault),
-    }
+    enter(queues, history, &mut made)
 }
 
 /// An event at the node that acts in it.
@@ -102,21 +99,26 @@ fn act(
     ensures err { OnErr result ((history.new ≡ history.old) × (queues.new ≡ queues.old) × Restores topology.now id.0 state.old state.new) }
     ensures full { IfErr result (λ fault. (items : ℕ) → fault ≡ StepFault.Full items → WouldOverfill topology.now id.0 state.old queues.old history.old event items) }
 {
-    let Ok(step) = work_at(topology, &mut state.node, &event, &took) else {
+    let crashes = is_crash(&event);
+    let mut made = Record {
+        event,
+        took,
+        step: KeptStep::quiet(Outcome::Ok),
+    };
+    let Ok(step) = work_at(topology, &mut state.node, &made.event, &made.took) else {
         return Err(StepFault::NoMemory);
     };
-    let crashes = is_crash(&event);
-    let made = Record { event, took, step };
+    made.step = step;
     let at = history.trace().len();
-    match enter(queues, history, made) {
+    match enter(queues, history, &mut made) {
         Ok(()) => {
             state.node.follow(&history.trace().as_slice()[at]);
             state.crashed = crashes;
             Ok(())
         }
-        Err(refused) => {
-            state.node.undo(&refused.record);
-            Err(refused.fault)
+        Err(fault) => {
+            state.node.undo(&made);
+            Err(fault)
         }
     }
 }

@@ -1,11 +1,11 @@
 // All that happened, and how much was put in it.
-ghost use Rattle.std.specs.Prelude.{◌≡◌, ◌≤◌, ◌+◌, ◌++◌, ◌∷◌, [], IfErr, OnOk};
+ghost use Rattle.std.specs.Prelude.{◌≡◌, ◌≤◌, ◌+◌, ◌++◌, ◌∷◌, [], IfErr, OnErr, OnOk};
 ghost use Rattle.pipe_base.specs.Limits.{most_items};
 ghost use Rattle.pipe_model.specs.Items.{items_in, items_of};
-ghost use Rattle.pipe_world.specs.History.{IsRefused, IsToldFull};
+ghost use Rattle.pipe_world.specs.History.{FullBy, IsToldFull};
 
 use crate::fault::StepFault;
-use pipe_base::List;
+use pipe_base::{List, NoMemory};
 use pipe_model::{Record, Trace};
 use std::alloc::Global;
 use std::marker::Model;
@@ -29,13 +29,6 @@ impl Model for History {
     ghost view = { λ h. h.trace };
 
     ghost invariant = { λ h. IsCounted h.items h.trace };
-}
-
-/// A record that was handed back, and why.
-#[derive(Drop)]
-pub struct Refused {
-    pub record: Record,
-    pub fault: StepFault,
 }
 
 impl History {
@@ -76,27 +69,24 @@ impl History {
         self.items + record.step.put().len() as u32 + record.step.control().len() as u32
     }
 
-    /// Appends a record, unless it puts too much or there is no memory.
-    pub fn push(&mut self, record: Record) -> Result<(), Refused>
-        requires { items_in «record» ≤ most_items }
-        ensures ok { OnOk result (self.new ≡ self.old ++ «record» ∷ []) }
-        ensures err { IfErr result (IsRefused self.old self.new «record») }
-        ensures many { IfErr result (λ refused. IsToldFull self.old «record» refused.fault) }
+    /// Moves a record out of its place to the end, unless it puts too much or there is no memory: then it stays.
+    pub fn push_from(&mut self, place: &mut Record) -> Result<(), StepFault>
+        requires { items_in place.old ≤ most_items }
+        ensures ok { OnOk result (self.new ≡ self.old ++ place.old ∷ []) }
+        ensures err { OnErr result ((self.new ≡ self.old) × (place.new ≡ place.old)) }
+        ensures full { IfErr result (FullBy self.old place.old) }
+        ensures many { IfErr result (IsToldFull self.old place.old) }
     {
-        let items = self.items_with(&record);
+        let items = self.items_with(place);
         if items > MOST_ITEMS {
-            let fault = StepFault::Full { items };
-            return Err(Refused { record, fault });
+            return Err(StepFault::Full { items });
         }
-        match self.trace.push_or_return(record) {
+        match self.trace.push_from(place, Record::idle()) {
             Ok(()) => {
                 self.items = items;
                 Ok(())
             }
-            Err(record) => Err(Refused {
-                record,
-                fault: StepFault::NoMemory,
-            }),
+            Err(NoMemory) => Err(StepFault::NoMemory),
         }
     }
 }

@@ -1,13 +1,14 @@
 // Whose turn it is in an event: a node acts, or no node does anything.
-ghost use Rattle.std.specs.Prelude.{◌≡◌, ◌<◌, List, IfOk, IfSome, MatchOption, length, true};
+ghost use Rattle.std.specs.Prelude.{◌≡◌, ◌<◌, List, IfOk, IfSome, MatchOption, length};
+ghost use Rattle.std.specs.Option.{option_map};
 ghost use Rattle.pipe_base.specs.Graph.{Graph, IsGraph};
 ghost use Rattle.pipe_model.specs.declared.record.Record.{Record};
 ghost use Rattle.pipe_model.specs.Event.{IsOfGraph};
-ghost use Rattle.pipe_world.specs.Turn.{ActsAt, IsItem, IsMessage, IsOfNobody, IsToController, IsToNode, IsTurn, ReachesKnown, is_there, taken_of, IsUndecided};
+ghost use Rattle.pipe_world.specs.Turn.{ActsAt, IsFound, IsItem, IsMessage, IsOfNobody, IsToController, IsToNode, IsTurn, ReachesKnown, IsUndecided};
 ghost use Rattle.pipe_world.specs.World.{Keeps};
 
 use crate::node::NodeState;
-use pipe_base::{NoMemory, NodeId, Outcome, To};
+use pipe_base::{Addressed, LinkId, NoMemory, NodeId, Outcome, Packet, To};
 use pipe_model::{Event, Took};
 use pipe_net::Queues;
 use pipe_topo::Topology;
@@ -35,10 +36,9 @@ pub fn whose_turn(
     ensures turn { IfOk result (λ turn. IsTurn topology.now nodes.now queues.old event.now turn) }
     ensures same { queues.new ≡ queues.old }
 {
-    if !is_there(queues, event) {
+    let Some(took) = item(queues, event)? else {
         return Ok(idle(Outcome::NoItem));
-    }
-    let took = item(queues, event)?;
+    };
     match acting_node(topology, event, &took) {
         None => Ok(Turn::Passes {
             took,
@@ -59,48 +59,35 @@ fn idle(outcome: Outcome) -> Turn
     }
 }
 
-/// Something waits at the place that the event names, if it names one.
-fn is_there(queues: &Queues, event: &Event) -> bool
-    requires { (graph : Graph) × (length queues.now.lines ≡ length graph.links) × IsOfGraph graph event.now }
-    ensures { result ≡ is_there queues.now event.now }
-{
-    match event {
-        Event::Take { link, place, .. } | Event::Lose { link, place } => {
-            *place < queues.waiting(*link)
-        }
-        Event::ControlTake { place, .. } | Event::ControlLose { place } => {
-            *place < queues.waiting_control()
-        }
-        _ => true,
-    }
-}
-
-/// A copy of what the event takes.
-fn item(queues: &mut Queues, event: &Event) -> Result<Took, NoMemory>
+/// A copy of what the event takes. None where nothing waits at the place that the event names, if it names one.
+fn item(queues: &mut Queues, event: &Event) -> Result<Option<Took>, NoMemory>
     requires links { (graph : Graph) × (length queues.old.lines ≡ length graph.links) × IsOfGraph graph event.now }
-    requires there { is_there queues.old event.now ≡ true }
-    ensures took { IfOk result (λ took. took ≡ taken_of queues.old event.now) }
-    ensures item { IfOk result (IsItem event.now) }
+    ensures found { IfOk result (IsFound queues.old event.now) }
     ensures same { queues.new ≡ queues.old }
 {
     match event {
-        Event::Take { link, place, .. } => {
-            let Some(packet) = queues.take(*link, *place, true)? else {
-                unreachable!()
-            };
-            Ok(Took::Link {
-                link: *link,
-                packet,
-            })
-        }
-        Event::ControlTake { place, .. } => {
-            let Some(addressed) = queues.take_control(*place, true)? else {
-                unreachable!()
-            };
-            Ok(Took::Message { addressed })
-        }
-        _ => Ok(Took::Nothing),
+        Event::Take { link, place, .. } => Ok(packet_on(*link, queues.take(*link, *place, true)?)),
+        Event::ControlTake { place, .. } => Ok(message(queues.take_control(*place, true)?)),
+        Event::Lose { link, place } if *place >= queues.waiting(*link) => Ok(None),
+        Event::ControlLose { place } if *place >= queues.waiting_control() => Ok(None),
+        _ => Ok(Some(Took::Nothing)),
     }
+}
+
+/// What takes a packet from a link, where there is one.
+fn packet_on(link: LinkId, packet: Option<Packet>) -> Option<Took>
+    ensures { result ≡ option_map (Took.Link link) packet }
+{
+    let packet = packet?;
+    Some(Took::Link { link, packet })
+}
+
+/// What takes a control message, where there is one.
+fn message(addressed: Option<Addressed>) -> Option<Took>
+    ensures { result ≡ option_map Took.Message addressed }
+{
+    let addressed = addressed?;
+    Some(Took::Message { addressed })
 }
 
 /// The node that acts in an event, or None where nobody does.

@@ -20,26 +20,26 @@ read_again xs r read at is same = same ∙ get_or_push xs r read at (sym is)
 
 pub take_out-requires : goal.take_out-requires
 take_out-requires c =
-    let r : Record = c.args.made in
+    let r : Record = c.args.made.now in
     let waits : Waits = c.args.queues.now in
     let read : c.index-as_slice-at.result ≡ r =
     read_again c.args.history.now r c.index-as_slice-at.result c.len-at.result (c.len-at.ensures ∙ ap length c.trace.ensures.trace)
     (c.index-as_slice-at.is
-    ∙ ap (λ (rs : List Record). get_or rs c.len-at.result c.index-as_slice-at.result) (c.as_slice.ensures ∙ c.trace-in-Ok.ensures.trace ∙ c.in-Ok.ensures.ok)) in
+    ∙ ap (λ (rs : List Record). get_or rs c.len-at.result c.index-as_slice-at.result) (c.as_slice.ensures ∙ c.trace-2.ensures.trace ∙ c.in_default.ensures.ok)) in
     let put : c.put_both.new.queues ≡ with_items r waits = search rules in
     subst (IsInPlace c.put_both.new.queues c.index-as_slice-at.result.event) (sym c.outcome.ensures)
     (subst (λ (s : Record). IsInPlace c.put_both.new.queues s.event s.step.outcome) (sym read)
     (subst (λ (w : Waits). IsInPlace w r.event r.step.outcome) (sym put)
     (in_place_more r waits r.event r.step.outcome c.requires.known c.requires.in_place)))
 
-pub returns-in-Ok-clause-queues_ok : goal.returns-in-Ok-clause-queues_ok
-returns-in-Ok-clause-queues_ok c = λ graph past stands.
-    let r : Record = c.args.made in
+pub returns-clause-queues_ok : goal.returns-clause-queues_ok
+returns-clause-queues_ok c = λ graph past stands.
+    let r : Record = c.args.made.now in
     let waits : Waits = c.args.queues.now in
     let read : c.index-as_slice-at.result ≡ r =
     read_again c.args.history.now r c.index-as_slice-at.result c.len-at.result (c.len-at.ensures ∙ ap length c.trace.ensures.trace)
     (c.index-as_slice-at.is
-    ∙ ap (λ (rs : List Record). get_or rs c.len-at.result c.index-as_slice-at.result) (c.as_slice.ensures ∙ c.trace-in-Ok.ensures.trace ∙ c.in-Ok.ensures.ok)) in
+    ∙ ap (λ (rs : List Record). get_or rs c.len-at.result c.index-as_slice-at.result) (c.as_slice.ensures ∙ c.trace-2.ensures.trace ∙ c.in_default.ensures.ok)) in
     let put : c.put_both.new.queues ≡ with_items r waits = search rules in
     let left : c.take_out.new.queues ≡ moved_by r waits =
     c.take_out.ensures
@@ -50,9 +50,9 @@ returns-in-Ok-clause-queues_ok c = λ graph past stands.
 
 pub take_back-requires : goal.take_back-requires
 take_back-requires c =
-    let r : Record = c.args.made in
+    let r : Record = c.args.made.now in
     let put : c.put_both.new.queues ≡ with_items r c.args.queues.now = search rules in
     let count : length c.take_messages_back.new.queues.lines ≡ length c.args.queues.now.lines =
     ap (λ (w : Waits). length w.lines) c.take_messages_back.ensures ∙ ap (λ (w : Waits). length w.lines) put ∙ puts_count r.step.put c.args.queues.now in
-    subst (AreKnown (length c.take_messages_back.new.queues.lines)) (sym (c.put.ensures ∙ ap (λ (s : Record). s.step.put) c.in-Err.ensures.err.record_is))
+    subst (AreKnown (length c.take_messages_back.new.queues.lines)) (sym (c.put.ensures ∙ ap (λ (s : Record). s.step.put) c.in-Err.ensures.err.1))
     (subst (λ (n : ℕ). AreKnown n r.step.put) (sym count) c.requires.known)

@@ -55,4 +55,4 @@ returns-in-Ok-enter-clause-ok c = λ v stands.
 
 pub returns-in-Err-clause-full : goal.returns-in-Err-clause-full
 returns-in-Err-clause-full c = λ v stands items full.
-    subst (λ (r : Record). IsOver c.args.history.now r items) (ap (record_of Decide Nothing) (c.in-Ok.ensures.step v stands)) (c.in-Err.ensures.err.full items full)
+    subst (λ (r : Record). IsOver c.args.history.now r items) (ap (record_of Decide Nothing) (c.in-Ok.ensures.step v stands)) (c.in-Err.ensures.full items full)

@@ -57,24 +57,24 @@ returns-in-Ok-enter-clause-ok c =
           (λ past waits. c.in-Ok-enter.ensures.queues_ok graph past waits),
     )
 
-pub returns-in-Err-clause-err : goal.returns-in-Err-clause-err
-returns-in-Err-clause-err c =
+pub returns-clause-err : goal.returns-clause-err
+returns-clause-err c =
     let graph = c.args.topology.now in
     let r : Record = record_of c.args.event c.args.took c.in-Ok.step in
-    let undoes = subst (λ (s : Record). (g : Graph) (n : ℕ) (o : List Record) → StandsWith g n o s c.work_at.new.node → IsNodeStep g n o s → Stands g n o c.undo.new.self) c.in-Err.ensures.err.record_is c.undo.ensures in (
-      c.in-Err.ensures.err.same,
-      c.in-Err.ensures.queues_err,
+    let undoes = subst (λ (s : Record). (g : Graph) (n : ℕ) (o : List Record) → StandsWith g n o s c.work_at.new.node → IsNodeStep g n o s → Stands g n o c.undo.new.self) c.in-Err.ensures.err.1 c.undo.ensures in (
+      c.in-Err.ensures.err.0,
+      c.in-Err.ensures.err.2,
       λ past stands.
           let works = c.in-Ok.ensures.work c.args.id (own graph c.args.id.0 past) c.requires.event c.requires.acts stands.node_stands in
           record { node_stands = undoes graph c.args.id.0 (own graph c.args.id.0 past) works.stands works.rules; crashed_is = stands.crashed_is },
     )
 
-pub returns-in-Err-clause-full : goal.returns-in-Err-clause-full
-returns-in-Err-clause-full c = λ items is. record {
+pub returns-clause-full : goal.returns-clause-full
+returns-clause-full c = λ items is. record {
   next = record_of c.args.event c.args.took c.in-Ok.step;
   event_is = refl;
   rules = λ past run stands waits.
       worked c.args.topology.now c.args.id c.args.queues.now c.args.event c.args.took c.in-Ok.step past c.requires.event c.requires.undecided c.requires.acts c.requires.took c.requires.there
       (c.in-Ok.ensures.work c.args.id _ c.requires.event c.requires.acts stands.node_stands).rules (sym stands.crashed_is ∙ c.requires.awake) waits;
-  over = c.in-Err.ensures.err.full items is;
+  over = c.in-Err.ensures.full items is;
 }

@@ -2,35 +2,28 @@ use Rattle.std.proofs.Common.{◌≡◌, List, refl, ap, ◌∙◌}
 use Rattle.std.proofs.lemmas.Result.{IfOk-weaker}
 use Rattle.pipe_base.specs.declared.name.LinkId.{LinkId}
 use Rattle.pipe_base.specs.declared.name.NodeId.{NodeId}
-use Rattle.pipe_base.specs.declared.step.Outcome.TheVariants.{Ok}
 use Rattle.pipe_base.specs.declared.step.Step.{Step}
 use Rattle.pipe_base.specs.Graph.{Graph}
-use Rattle.pipe_base.specs.Packets.{Fields}
-use Rattle.pipe_base.specs.Step.{quiet_step}
-use Rattle.pipe_base.specs.Ways.{with_beacons}
 use Rattle.pipe_model.specs.declared.record.Record.{Record}
 use Rattle.pipe_model.specs.Run.{IsNodeStep}
 use Rattle.pipe_links.proofs.Follows.{ready}
-use Rattle.pipe_switch.specs.Half.{Stands, Works, ticked}
+use Rattle.pipe_switch.specs.Half.{Stands, Works, beat, ticked}
 use Rattle.pipe_switch.proofs.HalfSteps.{ticks}
 use Rattle.pipe_switch.proofs.half.Half.work_tick.Goals as goal
 
 pub returns : goal.returns
 returns c =
     let b = c.in_ok-barriers.barriers in
-    let marks = c.in_ok-step.field-0 in
-    let tells = c.in_ok-step-2.field-0 in
+    let marks = c.in_ok-downed.downed in
+    let tells = c.in_ok-told.told in
     let all = c.tell_gone.new.told in
-    let f : Fields = record { be = b.be.0; commit = b.commit.0 } in
-    IfOk-weaker c.keep.result (λ (kept : Step). kept ≡ c.put_beacons.new.step)
+    IfOk-weaker c.beat.result (λ (kept : Step). kept ≡ beat c.args.self.now.links.ways.outs b marks all)
     (λ (kept : Step). (graph : Graph) (node : NodeId) (own : List Record) → Stands graph node.0 own c.args.self.now → Works graph node.0 own (ticked node c.args.now kept) c.args.self.now)
     (λ kept is graph node own stands.
     let rules : IsNodeStep graph node.0 own (ticked node c.args.now kept) =
     ticks graph node own c.args.now marks tells all b kept stands.half stands.links_are.history
-    (c.in_ok-step.ensures graph node.0 own stands.links_are) (c.in_ok-step-2.ensures graph node.0 own stands.links_are)
+    (c.in_ok-downed.ensures graph node.0 own stands.links_are) (c.in_ok-told.ensures graph node.0 own stands.links_are)
     (c.in_ok-tell_gone.ensures.ok graph node.0 own stands.links_are) (c.in_ok-barriers.ensures graph node.0 own stands.links_are)
-    (is ∙ c.in_ok-put_beacons.ensures.ok
-    ∙ ap (λ (s : Step). with_beacons c.args.self.now.links.ways.outs f (record s { downed = marks; control = all })) c.new-step.ensures
-    ∙ ap (λ (ls : List LinkId). with_beacons ls f (record (quiet_step Ok) { downed = marks; control = all })) stands.links_are.ways_are.outs_are) in
+    (is ∙ ap (λ (ls : List LinkId). beat ls b marks all) stands.links_are.ways_are.outs_are) in
     record { rules = rules; stands = record { half = stands.half; links_are = ready graph node.0 own (ticked node c.args.now kept) c.args.self.now.links stands.links_are rules refl } })
-    c.keep.ensures
+    c.beat.ensures
