@@ -1,10 +1,13 @@
 -- Numbers at the front of a text.
-use Rattle.std.proofs.Common.{◌≡◌, ◌==◌, ◌&&◌, ◌||◌, not, ℕ, ◌<◌, ◌≤◌, Bool, true, false, List, length, take, get_or, All, arith, ap, refl, sym, ◌∙◌, nat_le, nat_lt, if◌then◌else◌, Some, None}
-use Rattle.std.specs.Str.Parse.{digits_value}
+use Rattle.std.proofs.Common.{◌≡◌, ◌==◌, ◌&&◌, ◌||◌, not, ℕ, ◌+◌, ◌<◌, ◌≤◌, Bool, true, false, List, ◌∷◌, ◌++◌, length, take, drop, get_or, All, arith, ap, refl, sym, ◌∙◌, nat_le, nat_lt, if◌then◌else◌, Some, None}
+use Rattle.std.specs.Char.{is_ascii_digit}
+use Rattle.std.specs.Str.Parse.{AllDigits, digits_value}
+use Rattle.std.proofs.Math.ListN.{get_or-append}
+use Rattle.std.proofs.Math.Seq.{drop-append_seam, get_or-append_seam, take-append_seam}
 use Rattle.std.proofs.lemmas.Bool.{ne_eqb}
 use Rattle.std.proofs.lemmas.Bool.Decides.{nat_tests}
 use Rattle.std.specs.Cmp.Derive.{both_true}
-use Rattle.std.proofs.lemmas.List.{length-take, take_all, get_or-take}
+use Rattle.std.proofs.lemmas.List.{length-append, length-take, take_all, get_or-take}
 use Rattle.std.proofs.lemmas.List.Elements.{All-from_get_or}
 use Rattle.std.proofs.lemmas.Str.Parse.{digit_at}
 use Rattle.pipe_text.specs.Number.{AreDigits, is_number, is_spelled, number_of}
@@ -97,6 +100,73 @@ unspelled_digits most text count value are unspelled =
 -- digits of a value above the bound
 pub digits_above : (most : ℕ) (text : List ℕ) (count value : ℕ) → AreDigits text count value → most < value → number_of most text ≡ None
 digits_above most text count value are above = digits_spell_none most text count value are (λ some alone fits. omega arith)
+
+-- digits and then this byte, which is none, are the digits at the front
+word_len : (text word after : List ℕ) (stop count value : ℕ) → AreDigits text count value → is_ascii_digit stop ≡ false
+    → text ≡ word ++ stop ∷ after → AllDigits 10 word → length word ≤ 15 → count ≡ length word
+word_len text word after stop count value are other split digits few = by_order (nat_lt count (length word)) (nat_lt (length word) count) refl refl
+  where
+    long : length text ≡ length word + length (stop ∷ after)
+    long = ap length split ∙ length-append word (stop ∷ after)
+
+    by_order : (s t : Bool) → nat_lt count (length word) ≡ s → nat_lt (length word) count ≡ t → count ≡ length word
+    by_order true t less more =
+        let below : count < length word = grind (arith, nat_tests) in
+        let here : get_or text count 0 ≡ get_or word count 0
+        = ap (λ (bytes : List ℕ). get_or bytes count 0) split ∙ get_or-append word (stop ∷ after) 0 count below in
+        let range = digit_at word count digits below in
+        let ends = are.longest (omega (arith, long)) (omega arith) in
+        absurd (grind (arith, nat_tests, range.0, range.1, ends, here))
+    by_order false true less more =
+        let above : length word < count = grind (arith, nat_tests) in
+        let seam : get_or text (length word) 0 ≡ stop
+        = ap (λ (bytes : List ℕ). get_or bytes (length word) 0) split ∙ get_or-append_seam word stop after 0 in
+        let here : get_or (take count text) (length word) 0 ≡ stop = get_or-take count text (length word) 0 above ∙ seam in
+        let range = digit_at (take count text) (length word) are.digits (omega (arith, front_len text count are.within)) in
+        absurd (grind (arith, nat_tests, range.0, range.1, other, here))
+    by_order false false less more = grind (arith, nat_tests)
+
+-- no word before this byte, which is no digit, is a number, unless it is the digits at the front
+no_word_before : (most : ℕ) (text word after : List ℕ) (stop count value : ℕ) → AreDigits text count value → is_ascii_digit stop ≡ false
+    → text ≡ word ++ stop ∷ after
+    → (count ≡ length word → value ≡ digits_value 10 word → is_number word ≡ true → value ≤ most → ⊥) → number_of most word ≡ None
+no_word_before most text word after stop count value are other split never =
+    no_number most word (λ is fits.
+    let whole = number_digits word is in
+    let same = word_len text word after stop count value are other split whole.0 whole.1 in
+    let front : take count text ≡ word = ap (take count) split ∙ take_word same in
+    let value_same : value ≡ digits_value 10 word = are.value_is ∙ ap (digits_value 10) front in
+    never same value_same is (omega (arith, value_same, fits)))
+  where
+    take_word : count ≡ length word → take count (word ++ stop ∷ after) ≡ word
+    take_word same = ap (λ (n : ℕ). take n (word ++ stop ∷ after)) same ∙ take-append_seam word (stop ∷ after)
+
+-- digits that are none, or begin with a zero, before this byte
+pub unspelled_before : (most : ℕ) (text word after : List ℕ) (stop count value : ℕ) → AreDigits text count value → is_spelled text count ≡ false
+    → is_ascii_digit stop ≡ false → text ≡ word ++ stop ∷ after → number_of most word ≡ None
+unspelled_before most text word after stop count value are unspelled other split =
+    no_word_before most text word after stop count value are other split (λ same value_same is fits.
+    let shape = number_shape word is in
+    let first : get_or text 0 0 ≡ get_or word 0 0
+    = ap (λ (bytes : List ℕ). get_or bytes 0 0) split ∙ get_or-append word (stop ∷ after) 0 0 shape.0 in
+    let spelled = spelled_from (count == 1) (get_or text 0 0) count refl (omega (arith, shape.0, same)) (λ z. same ∙ shape.1 (sym first ∙ z)) in
+    absurd (cc (spelled, unspelled)))
+
+-- digits of a value above the bound, before this byte
+pub above_before : (most : ℕ) (text word after : List ℕ) (stop count value : ℕ) → AreDigits text count value → most < value
+    → is_ascii_digit stop ≡ false → text ≡ word ++ stop ∷ after → number_of most word ≡ None
+above_before most text word after stop count value are above other split =
+    no_word_before most text word after stop count value are other split (λ same value_same is fits. omega arith)
+
+-- digits and then another byte, or none
+pub other_before : (most : ℕ) (text word after : List ℕ) (stop count value : ℕ) → AreDigits text count value
+    → (drop count text ≡ stop ∷ after → ⊥) → is_ascii_digit stop ≡ false → text ≡ word ++ stop ∷ after → number_of most word ≡ None
+other_before most text word after stop count value are never other split =
+    no_word_before most text word after stop count value are other split (λ same value_same is fits.
+    never (ap (drop count) split ∙ rest same))
+  where
+    rest : count ≡ length word → drop count (word ++ stop ∷ after) ≡ stop ∷ after
+    rest same = ap (λ (n : ℕ). drop n (word ++ stop ∷ after)) same ∙ drop-append_seam word (stop ∷ after)
 
 -- a number has a byte, and each is above the space
 pub number_plain : (most value : ℕ) (word : List ℕ) → number_of most word ≡ Some value → All (λ byte. 32 < byte) word × (0 < length word)

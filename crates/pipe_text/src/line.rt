@@ -1,5 +1,5 @@
 // The lines of a text.
-ghost use Rattle.std.specs.Prelude.{◌≡◌, ◌==◌, ◌∷◌, [], ◌++◌, ◌<◌, All, length, map, position, IfOk, IfSome, OnOk};
+ghost use Rattle.std.specs.Prelude.{◌≡◌, ◌==◌, ◌∷◌, [], ◌++◌, ◌<◌, ◌≤◌, All, length, map, position, IfOk, IfNone, IfSome, OnOk};
 ghost use Rattle.std.specs.Str.Lines.{lines, strip_carriage_return};
 ghost use Rattle.pipe_text.specs.Words.{IsLineRead, word_before};
 
@@ -66,9 +66,11 @@ fn add_word<'a>(words: &mut Vec<&'a [u8]>, word: &'a [u8]) -> Result<(), NoMemor
     Ok(())
 }
 
-/// The bytes above the space, the first byte that is not, and what comes after it.
+/// The bytes above the space, the first byte that is not, and what comes after it. None where all bytes are above the space.
 pub fn cut_word(text: &[u8]) -> Option<(&[u8], u8, &[u8])>
-    ensures { IfSome result (λ cut. (text.now ≡ cut.0.now ++ cut.1 ∷ cut.2.now) × All (λ byte. 32 < byte) cut.0.now) }
+    ensures some { IfSome result (λ cut. (text.now ≡ cut.0.now ++ cut.1 ∷ cut.2.now) × All (λ byte. 32 < byte) cut.0.now) }
+    ensures stop { IfSome result (λ cut. cut.1 ≤ 32) }
+    ensures none { IfNone result (All (λ byte. 32 < byte) text.now) }
 {
     let at = text.iter().position(|byte| *byte <= b' ')?;
     let (word, rest) = text.split_at(at);

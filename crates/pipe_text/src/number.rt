@@ -1,5 +1,6 @@
 // Numbers in their one spelling.
-ghost use Rattle.std.specs.Prelude.{◌≡◌, ◌<◌, ◌≤◌, ◌↔◌, ◌++◌, ◌∷◌, ℕ, List, decimal, length, take, IfSome, IfNone, Some, None};
+ghost use Rattle.std.specs.Prelude.{◌≡◌, ◌<◌, ◌≤◌, ◌↔◌, ◌++◌, ◌∷◌, ℕ, List, false, decimal, length, take, IfSome, IfNone, Some, None};
+ghost use Rattle.std.specs.Char.{is_ascii_digit};
 ghost use Rattle.pipe_text.specs.Number.{AreDigits, is_spelled, number_of};
 
 /// The most digits of a number.
@@ -22,9 +23,10 @@ pub fn read_number(word: &[u8], most: u64) -> Option<u64>
 }
 
 /// The number that the front of a text spells, up to the first `stop`, and the text after that. None where it spells none,
-/// or one above `most`.
+/// or one above `most`: where the stop is no digit, no front of the text up to a stop is a number then.
 pub fn number_before(text: &[u8], stop: u8, most: u64) -> Option<(u64, &[u8])>
-    ensures { IfSome result (λ p. (word : List ℕ) × (text.now ≡ word ++ stop ∷ p.1.now) × (number_of most word ≡ Some p.0)) }
+    ensures some { IfSome result (λ p. (word : List ℕ) × (text.now ≡ word ++ stop ∷ p.1.now) × (number_of most word ≡ Some p.0)) }
+    ensures none { IfNone result ((word after : List ℕ) → is_ascii_digit stop ≡ false → text.now ≡ word ++ stop ∷ after → number_of most word ≡ None) }
 {
     let (value, count) = front_number(text, most)?;
     let (_, rest) = text.split_at(count);
@@ -38,8 +40,10 @@ pub fn number_before(text: &[u8], stop: u8, most: u64) -> Option<(u64, &[u8])>
 fn front_number(text: &[u8], most: u64) -> Option<(u64, usize)>
     ensures within { IfSome result (λ p. p.1 ≤ length text.now) }
     ensures front { IfSome result (λ p. number_of most (take p.1 text.now) ≡ Some p.0) }
+    ensures digits { IfSome result (λ p. AreDigits text.now p.1 p.0) }
     ensures longest { IfSome result (λ p. p.1 < length text.now → number_of most text.now ≡ None) }
     ensures none { IfNone result (number_of most text.now ≡ None) }
+    ensures before { IfNone result ((word after : List ℕ) (stop : ℕ) → is_ascii_digit stop ≡ false → text.now ≡ word ++ stop ∷ after → number_of most word ≡ None) }
 {
     let (value, count) = leading_digits(text);
     if !is_spelled(text, count) {
