@@ -12,8 +12,9 @@ ghost use Rattle.pipe_cli.specs.Status.{exit_number};
 ghost use Rattle.onepipe.specs.Ending.{EndsAsRun, status_without_words};
 
 use crate::streams::{StdSink, StdSource};
-use pipe_base::{List, Sink, Source};
+use pipe_base::List;
 use pipe_cli::{Status, Words, exit_number, run};
+use pipe_outside::{Sink, Source};
 use std::alloc::Global;
 use std::env::Args;
 use std::mem::forget;
@@ -64,7 +65,7 @@ fn ended<S: Source, K: Sink>(
 ) -> ExitCode
     ensures wordless { IfErr words (λ fault. exit_status result ≡ exit_number (status_without_words (error_kind fault))) }
     ensures untouched { OnErr words ((source.new ≡ source.old) × (sink.new ≡ sink.old)) }
-    ensures ran { IfOk words (λ words. EndsAsRun (map string_bytes words) (S.left source.old) (S.left source.new) (K.written sink.old) (K.written sink.new) (S.faults source.old) (S.faults source.new) (K.faults sink.old) (K.faults sink.new) (exit_status result)) }
+    ensures ran { IfOk words (λ words. EndsAsRun S.left S.faults K.written K.faults (map string_bytes words) source.old source.new sink.old sink.new (exit_status result)) }
 {
     match words {
         Ok(words) => {

@@ -1,6 +1,6 @@
 // Standard input and output as a source and a sink. They tell the bytes that the kit's reader and writer tell, and count
 // their faults.
-use pipe_base::{Failed, Sink, Source};
+use pipe_outside::{Failed, Sink, Source};
 use std::io::{Read, Write};
 
 /// A source over a reader of the system.

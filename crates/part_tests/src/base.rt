@@ -1,8 +1,7 @@
-// What no clause says: that the calls which take memory succeed with ample memory, and the values of the forms in memory.
+// What no clause says: that the calls which take memory succeed with ample memory.
 
 use pipe_base::*;
 use std::alloc::{AllocError, Global};
-use std::process::Abort;
 
 // Lengths of bodies, and whether they are too long.
 static LENGTHS: [(usize, bool); 3] = [(0, false), (1024, false), (1025, true)];
@@ -23,62 +22,10 @@ fn bodies_have_at_most_1024_bytes(rt: HostRuntime) -> Result<(), AllocError> {
     Ok(())
 }
 
-// How many bytes each call gives, or that it fails, and what then stands in the two bytes of the buffer.
-static READS: [(Option<usize>, &[u8]); 4] = [
-    (Some(2), b"ab"),
-    (None, b"ab"),
-    (Some(1), b"cb"),
-    (Some(0), b"cb"),
-];
-
-fn read_all(rt: &impl Abort, source: &mut MemorySource) {
-    let mut buf = [0u8; 2];
-    for (count, given) in &READS {
-        assert!(rt; source.read(&mut buf).ok() == *count);
-        assert!(rt; buf.as_slice() == *given);
-    }
-}
-
-fn read_steadily(rt: &impl Abort, source: &mut SteadySource) {
-    let mut buf = [0u8; 2];
-    for count in [2usize, 1, 0] {
-        assert!(rt; source.read(&mut buf).ok() == Some(count));
-    }
-}
-
-#[test]
-fn sources_in_memory_give_their_bytes(rt: HostRuntime) -> Result<(), NoMemory> {
-    read_all(&rt, &mut MemorySource::new(rt.alloc(), b"abc", &[1])?);
-    read_steadily(&rt, &mut SteadySource::new(rt.alloc(), b"abc")?);
-    Ok(())
-}
-
-// Each piece, and how many bytes of it are taken, or that the call fails.
-static WRITES: [(&[u8], Option<usize>); 5] = [
-    (b"abcd", Some(3)),
-    (b"d", None),
-    (b"defg", Some(2)),
-    (b"", Some(0)),
-    (b"f", None),
-];
-
-fn write_all(rt: &impl Abort, sink: &mut MemorySink) {
-    for (piece, count) in &WRITES {
-        assert!(rt; sink.write(piece).ok() == *count);
-    }
-    assert!(rt; sink.bytes() == b"abcde".as_slice());
-}
-
-#[test]
-fn sinks_in_memory_take_what_fits(rt: HostRuntime) -> Result<(), NoMemory> {
-    write_all(&rt, &mut MemorySink::new(rt.alloc(), 5, 3, &[1])?);
-    assert!(rt; SteadySink::new().write(b"abc").ok() == Some(3));
-    Ok(())
-}
-
 fn dropping(alloc: Global) -> Result<Control, NoMemory> {
     let mut links = List::new(alloc);
     links.push(LinkId(7))?;
+    let links = SharedList::from_list(links)?;
     Ok(Control::DropLinks {
         links: links.try_clone()?,
     })

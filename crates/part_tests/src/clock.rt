@@ -39,7 +39,7 @@ fn make(clock: &mut HostClock, call: Call) -> Option<u64> {
 
 #[test]
 fn stamps_above_all_that_it_heard(rt: HostRuntime) {
-    let mut clock = HostClock::new();
+    let mut clock = HostClock::new(Ts(LAST_STAMP));
     for (call, stamp, next) in &CALLS {
         assert!(rt; make(&mut clock, *call) == *stamp && clock.next().0 == *next);
     }

@@ -157,7 +157,7 @@ static CONTROLS: [(&[u8], &str); 6] = [
         &[
             1, 18, 0, 1, 0, 16, 0, 2, 1, 2, 3, 4, 5, 6, 0, 3, 0, 0, 0, 0, 0, 20,
         ],
-        "Addressed { to: Node(NodeId(1)), control: Notice { list: List { items: [Announced { host: HostId(2), time: Ts(1108152157446) }, Announced { host: HostId(3), time: Ts(20) }] } } }",
+        "Addressed { to: Node(NodeId(1)), control: Notice { list: SharedList { block: Some([Announced { host: HostId(2), time: Ts(1108152157446) }, Announced { host: HostId(3), time: Ts(20) }]) } } }",
     ),
     (
         &[1, 19, 255, 255, 0, 4, 0, 1, 1, 2],
@@ -165,7 +165,7 @@ static CONTROLS: [(&[u8], &str); 6] = [
     ),
     (
         &[1, 20, 0, 6, 0, 4, 0, 0, 1, 2],
-        "Addressed { to: Node(NodeId(6)), control: DropLinks { links: List { items: [LinkId(0), LinkId(258)] } } }",
+        "Addressed { to: Node(NodeId(6)), control: DropLinks { links: SharedList { block: Some([LinkId(0), LinkId(258)]) } } }",
     ),
     (
         &[1, 21, 255, 255, 0, 4, 0, 6, 0, 2],

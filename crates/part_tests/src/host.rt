@@ -3,7 +3,7 @@
 use crate::network::{ONE_HOST, build};
 use pipe_base::{
     Announced, Body, Control, Fate, HostId, LAST_BARRIER, LAST_STAMP, LinkId, List, NoMemory,
-    NodeId, Outcome, Packet, PacketKind, Service, Step, Ts,
+    NodeId, Outcome, Packet, PacketKind, Service, SharedList, Step, Ts,
 };
 use pipe_host::Host;
 use pipe_topo::{TopoFault, Topology};
@@ -382,12 +382,14 @@ fn note(alloc: Global, failed: u16, time: u64) -> Result<Control, NoMemory> {
         host: HostId(failed),
         time: Ts(time),
     })?;
+    let list = SharedList::from_list(list)?;
     Ok(Control::Notice { list })
 }
 
 fn drop_link(alloc: Global, link: u16) -> Result<Control, NoMemory> {
     let mut links = List::new(alloc);
     links.push(LinkId(link))?;
+    let links = SharedList::from_list(links)?;
     Ok(Control::DropLinks { links })
 }
 

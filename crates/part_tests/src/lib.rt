@@ -20,6 +20,8 @@ mod model;
 #[cfg(test)]
 mod network;
 #[cfg(test)]
+mod outside;
+#[cfg(test)]
 mod registers;
 #[cfg(test)]
 mod relsend;

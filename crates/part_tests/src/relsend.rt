@@ -13,7 +13,7 @@ struct NoWay;
 
 impl Router for NoWay {
     ghost use Rattle.std.specs.Prelude.{◌≡◌, []};
-    ghost use Rattle.pipe_base.specs.ShortestRoute.{picked};
+    ghost use Rattle.pipe_base.specs.Ways.{picked};
 
     ghost links = { λ _. [] };
 

@@ -5,7 +5,8 @@ use Rattle.std.proofs.lemmas.Bool.{cases_lt}
 use Rattle.std.proofs.lemmas.List.{drop_all, take_more}
 use Rattle.pipe_base.specs.declared.name.LinkId.{LinkId}
 use Rattle.pipe_base.specs.declared.name.Ts.{Ts}
-use Rattle.pipe_base.specs.Moment.{Moment, WentDown, Dropped, is_up, with_downed, with_dropped}
+use Rattle.pipe_base.specs.Moment.{Moment, WentDown, Dropped, is_up, with_downed}
+use Rattle.pipe_base.specs.Entries.{with_entries}
 use Rattle.pipe_base.specs.Silence.{QuietCall, is_silent, goes_down, mark_of, silent_marks}
 use Rattle.pipe_barrier.specs.declared.quiet.Quiet.{Quiet}
 use Rattle.pipe_barrier.specs.declared.register.Register.{Register}
@@ -77,16 +78,16 @@ downed_turn marks i d past lt =
 
 -- ---- links that are dropped
 
-with_dropped-append : (xs : List LinkId) (l : LinkId) (past : List Moment) → with_dropped (xs ++ l ∷ []) past ≡ Dropped l.0 ∷ with_dropped xs past
-with_dropped-append [] l past = refl
-with_dropped-append (x ∷ xs) l past = with_dropped-append xs l (Dropped x.0 ∷ past)
+entries-append : (ins : List LinkId) (xs : List LinkId) (l : LinkId) (past : List Moment) → with_entries ins (xs ++ l ∷ []) past ≡ Dropped l.0 ∷ with_entries ins xs past
+entries-append ins [] l past = refl
+entries-append ins (x ∷ xs) l past = entries-append ins xs l (Dropped x.0 ∷ past)
 
 -- one link more is dropped
-pub dropped_turn : (links : List LinkId) (i : ℕ) (d : LinkId) (past : List Moment) → i < length links
-    → with_dropped (take (i + 1) links) past ≡ Dropped (get_or links i d).0 ∷ with_dropped (take i links) past
-dropped_turn links i d past lt =
-    ap (λ (xs : List LinkId). with_dropped xs past) (take_more links i d lt) ∙ with_dropped-append (take i links) (get_or links i d) past
+pub dropped_turn : (ins : List LinkId) (links : List LinkId) (i : ℕ) (d : LinkId) (past : List Moment) → i < length links
+    → with_entries ins (take (i + 1) links) past ≡ Dropped (get_or links i d).0 ∷ with_entries ins (take i links) past
+dropped_turn ins links i d past lt =
+    ap (λ (xs : List LinkId). with_entries ins xs past) (take_more links i d lt) ∙ entries-append ins (take i links) (get_or links i d) past
 
 -- where none is dropped
-pub none_dropped : (links : List LinkId) (past : List Moment) → links ≡ [] → with_dropped links past ≡ past
-none_dropped links past none = ap (λ (ls : List LinkId). with_dropped ls past) none
+pub none_dropped : (ins : List LinkId) (links : List LinkId) (past : List Moment) → links ≡ [] → with_entries ins links past ≡ past
+none_dropped ins links past none = ap (λ (ls : List LinkId). with_entries ins ls past) none

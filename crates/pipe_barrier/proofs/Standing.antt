@@ -34,7 +34,7 @@ after_down false r = refl
 
 after_drop : (t : Bool) (r : Register) → (if t then changed Dropped r else r) ≡ record r {
   up = if t then false else r.up;
-  kept = if t then false else r.kept;
+  retained = if t then false else r.retained;
 }
 after_drop true r = refl
 after_drop false r = refl
@@ -199,12 +199,12 @@ held_at : (plane : Plane) (l : LinkId) (b : Barriers) (r : Register) → holds l
 held_at plane l b r is =
     let other = both (not (l.0 == r.link.0)) _ is in
     let up = both r.up _ other.1 in
-    let kept = both r.kept _ up.1 in
+    let kept = both r.retained _ up.1 in
     let bounds = both (nat_le r.be.0 b.be.0) (nat_le r.commit.0 b.commit.0) kept.1 in
     let known = at plane up.0 kept.0 bounds.0 bounds.1 in
     (unlike (l.0 == r.link.0) other.0, known.0, known.1)
   where
-    at : (plane : Plane) → r.up ≡ true → r.kept ≡ true → nat_le r.be.0 b.be.0 ≡ true → nat_le r.commit.0 b.commit.0 ≡ true
+    at : (plane : Plane) → r.up ≡ true → r.retained ≡ true → nat_le r.be.0 b.be.0 ≡ true → nat_le r.commit.0 b.commit.0 ≡ true
         → (is_counted plane r ≡ true) × (value_of plane r ≤ bound_of plane b)
     at BestEffort up kept be commit = (up, grind (arith, nat_tests))
     at Commit up kept be commit = (kept, grind (arith, nat_tests))
@@ -255,9 +255,9 @@ up_is true o r is = ap (λ (p : Option Register). unwrap_or (option_map (λ (x :
 up_is false o r is = ap (λ (p : Option Register). unwrap_or (option_map (λ (x : Register). x.up) p) false) is
 
 pub removed_is : (b : Bool) (o : Option Register) (r : Register) → o ≡ (if b then Some r else None)
-    → unwrap_or (option_map (λ (x : Register). not x.kept) o) false ≡ (b && not r.kept)
-removed_is true o r is = ap (λ (p : Option Register). unwrap_or (option_map (λ (x : Register). not x.kept) p) false) is
-removed_is false o r is = ap (λ (p : Option Register). unwrap_or (option_map (λ (x : Register). not x.kept) p) false) is
+    → unwrap_or (option_map (λ (x : Register). not x.retained) o) false ≡ (b && not r.retained)
+removed_is true o r is = ap (λ (p : Option Register). unwrap_or (option_map (λ (x : Register). not x.retained) p) false) is
+removed_is false o r is = ap (λ (p : Option Register). unwrap_or (option_map (λ (x : Register). not x.retained) p) false) is
 
 pub commit_is : (b : Bool) (o : Option Register) (r : Register) → o ≡ (if b then Some r else None)
     → unwrap_or (option_map (λ (x : Register). x.commit.0) o) 0 ≡ (if b then r.commit.0 else 0)

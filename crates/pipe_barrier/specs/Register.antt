@@ -6,7 +6,7 @@ use Rattle.pipe_base.specs.declared.control.To.TheVariants.{Controller}
 use Rattle.pipe_base.specs.declared.name.LinkId.{LinkId}
 use Rattle.pipe_base.specs.declared.packet.Plane.{Plane}
 use Rattle.pipe_base.specs.declared.packet.Plane.TheVariants.{BestEffort, Commit}
-use Rattle.pipe_base.specs.Moment.{Moment, is_up, is_kept}
+use Rattle.pipe_base.specs.Moment.{Moment, is_up, is_retained}
 use Rattle.pipe_base.specs.Moment as moment
 use Rattle.pipe_base.specs.Barrier.{register}
 use Rattle.pipe_barrier.specs.declared.change.Change.{Change}
@@ -20,12 +20,12 @@ register_of past l = record {
   be = record { 0 = register BestEffort past l.0 };
   commit = record { 0 = register Commit past l.0 };
   up = is_up past l.0;
-  kept = is_kept past l.0;
+  retained = is_retained past l.0;
 }
 
 -- a link on which nothing happened yet
 abbrev pub fresh_register : LinkId → Register
-fresh_register l = record { link = l; be = record { 0 = 0 }; commit = record { 0 = 0 }; up = true; kept = true }
+fresh_register l = record { link = l; be = record { 0 = 0 }; commit = record { 0 = 0 }; up = true; retained = true }
 
 -- a change of an in-link, as a moment of the node
 abbrev pub moment_of : LinkId → Change → Moment
@@ -35,9 +35,10 @@ moment_of l Dropped = moment.Dropped l.0
 
 -- the register of the link that changes
 abbrev pub changed : Change → Register → Register
-changed (Received be commit) r = record r { be = record { 0 = max r.be.0 be.0 }; commit = record { 0 = max r.commit.0 commit.0 } }
+changed (Received be commit) r =
+    record r { be = record { 0 = max r.be.0 be.0 }; commit = record { 0 = max r.commit.0 commit.0 } }
 changed WentDown r = record r { up = false }
-changed Dropped r = record r { up = false; kept = false }
+changed Dropped r = record r { up = false; retained = false }
 
 -- the register of any link
 abbrev pub register_after : LinkId → Change → Register → Register
@@ -52,7 +53,7 @@ lowered (Some low) true value = Some (min low value)
 -- whether a register counts in the plane, and with which value
 abbrev pub is_counted : Plane → Register → Bool
 is_counted BestEffort r = r.up
-is_counted Commit r = r.kept
+is_counted Commit r = r.retained
 
 abbrev pub value_of : Plane → Register → ℕ
 value_of BestEffort r = r.be.0

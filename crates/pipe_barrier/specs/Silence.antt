@@ -35,4 +35,5 @@ pub record Stands (ins : List LinkId) (patience : ℕ) (kept : Kept) (calls : Li
 
 -- whatever calls the old silence stands for, the new one stands for them with one call more
 abbrev pub AddsCall : Kept → Kept → QuietCall → Type 0
-AddsCall old new call = (ins : List LinkId) (patience : ℕ) (calls : List QuietCall) → Stands ins patience old calls → Stands ins patience new (call ∷ calls)
+AddsCall old new call = (ins : List LinkId) (patience : ℕ) (calls : List QuietCall) → Stands ins patience old calls
+    → Stands ins patience new (call ∷ calls)

@@ -1,6 +1,7 @@
 // The registers and the silence of a node's in-links together.
 ghost use Rattle.std.specs.Prelude.{◌≡◌, ◌==◌, ◌&&◌, ◌∷◌, [], ℕ, List, IfOk};
-ghost use Rattle.pipe_base.specs.Moment.{Moment, Received, is_up, has_link, with_downed, with_dropped};
+ghost use Rattle.pipe_base.specs.Moment.{Moment, Received, is_up, has_link, with_downed};
+ghost use Rattle.pipe_base.specs.Entries.{with_entries};
 ghost use Rattle.pipe_base.specs.Silence.{QuietCall, Took, Ticked, silent_marks};
 ghost use Rattle.pipe_barrier.specs.Registers.{AreBarriers, downs};
 ghost use Rattle.pipe_barrier.specs.Registers as registers;
@@ -99,7 +100,7 @@ impl InLinks {
         ensures { IfOk result (λ barriers. (ins : List LinkId) (patience : ℕ)
             (moments : List Moment) (calls : List QuietCall)
             → Stands ins patience self.now moments calls
-            → AreBarriers ins (with_dropped drops.now (with_downed marks.now moments)) barriers) }
+            → AreBarriers ins (with_entries ins drops.now (with_downed marks.now moments)) barriers) }
     {
         if drops.is_empty() {
             return self.barriers_without(marks);
@@ -172,7 +173,7 @@ impl InLinks {
     pub fn remove(&mut self, drops: &[LinkId])
         ensures { (ins : List LinkId) (patience : ℕ) (moments : List Moment) (calls : List QuietCall)
             → Stands ins patience self.old moments calls
-            → Stands ins patience self.new (with_dropped drops.now moments) calls }
+            → Stands ins patience self.new (with_entries ins drops.now moments) calls }
     {
         self.registers.remove_each(drops);
     }

@@ -16,7 +16,7 @@ pub struct Register {
     /// In best-effort use.
     pub up: bool,
     /// In commit use.
-    pub kept: bool,
+    pub retained: bool,
 }
 
 impl Register {
@@ -28,7 +28,7 @@ impl Register {
             be: Ts(0),
             commit: Ts(0),
             up: true,
-            kept: true,
+            retained: true,
         }
     }
 
@@ -57,7 +57,7 @@ impl Register {
             Change::WentDown => Register { up: false, ..self },
             Change::Dropped => Register {
                 up: false,
-                kept: false,
+                retained: false,
                 ..self
             },
         }
@@ -82,7 +82,7 @@ impl Register {
     {
         link.0 != self.link.0
             && self.up
-            && self.kept
+            && self.retained
             && self.be.0 <= barriers.be.0
             && self.commit.0 <= barriers.commit.0
     }

@@ -2,7 +2,8 @@
 ghost use Rattle.std.specs.Prelude.{◌≡◌, ◌==◌, ◌&&◌, ◌∷◌, [], if◌then◌else◌, List, max, map, not, true, reverse, None, unwrap_or, find, option_copied, IfOk};
 ghost use Rattle.std.specs.List.{list_any};
 ghost use Rattle.pipe_base.specs.declared.packet.Plane.TheVariants.{BestEffort, Commit};
-ghost use Rattle.pipe_base.specs.Moment.{Moment, Received, WentDown, Dropped, is_up, is_kept, has_link, with_downed, with_dropped};
+ghost use Rattle.pipe_base.specs.Moment.{Moment, Received, WentDown, Dropped, is_up, is_retained, has_link, with_downed};
+ghost use Rattle.pipe_base.specs.Entries.{with_entries};
 ghost use Rattle.pipe_base.specs.Barrier.{register};
 ghost use Rattle.pipe_barrier.specs.Register.{moment_of, register_after, least_from};
 ghost use Rattle.pipe_barrier.specs.Registers.{Stands, AddsMoment, AreBarriersAfter, downs, downs_among, kept_with, holds};
@@ -100,7 +101,7 @@ impl Registers {
     /// The node came to know links as dropped, one after the other. Those that are no in-links have no effect.
     pub(crate) fn remove_each(&mut self, links: &[LinkId])
         ensures { (ins : List LinkId) (past : List Moment) → Stands ins self.old past
-            → Stands ins self.new (with_dropped links.now past) }
+            → Stands ins self.new (with_entries ins links.now past) }
     {
         'drops: for link in links {
             self.remove(*link);
@@ -139,10 +140,10 @@ impl Registers {
     /// Whether the link is an in-link that is known as dropped.
     pub fn is_removed(&self, link: LinkId) -> bool
         ensures { (ins : List LinkId) (past : List Moment) → Stands ins self.now past
-            → result ≡ (has_link link.0 ins && not (is_kept past link.0)) }
+            → result ≡ (has_link link.0 ins && not (is_retained past link.0)) }
     {
         match self.find(link) {
-            Some(register) => !register.kept,
+            Some(register) => !register.retained,
             None => false,
         }
     }
@@ -162,7 +163,8 @@ impl Registers {
     /// What the controller is told of the in-links that are down and not dropped: of each its frozen
     /// value. One walk over the in-links.
     pub(crate) fn downs(&self, alloc: Global) -> Result<AddressedList, NoMemory>
-        ensures { IfOk result (λ told. (ins : List LinkId) (past : List Moment) → Stands ins self.now past → told ≡ downs ins past) }
+        ensures { IfOk result (λ told. (ins : List LinkId) (past : List Moment) → Stands ins self.now past
+            → told ≡ downs ins past) }
     {
         tell_downs(alloc, self.links())
     }
@@ -237,7 +239,7 @@ fn barriers_after(links: &[Register], barriers: Barriers, link: LinkId, change: 
     'links: for register in links {
         let register = register.after(link, change);
         be = lower(be, register.up, register.be);
-        commit = lower(commit, register.kept, register.commit);
+        commit = lower(commit, register.retained, register.commit);
     }
     barriers.follow(be, commit)
 }
@@ -248,7 +250,7 @@ fn tell_downs(alloc: Global, links: &[Register]) -> Result<AddressedList, NoMemo
 {
     let mut told = AddressedList::new(alloc);
     'links: for register in links {
-        if register.kept && !register.up {
+        if register.retained && !register.up {
             if told.is_empty() {
                 told.reserve(1)?;
             }

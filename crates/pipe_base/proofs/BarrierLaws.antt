@@ -4,7 +4,7 @@ use Rattle.std.proofs.lemmas.Bool.{cases_lt, or_cases, or_left, or_right}
 use Rattle.pipe_base.specs.declared.name.LinkId.{LinkId}
 use Rattle.pipe_base.specs.declared.packet.Plane.{Plane}
 use Rattle.pipe_base.specs.declared.packet.Plane.TheVariants.{BestEffort, Commit}
-use Rattle.pipe_base.specs.Moment.{Moment, Received, Counted, WentDown, Dropped, is_up, is_kept, is_used, in_use, has_link}
+use Rattle.pipe_base.specs.Moment.{Moment, Received, Counted, WentDown, Dropped, is_up, is_retained, is_used, in_use, has_link}
 use Rattle.pipe_base.specs.Barrier.{field_of, HasReceived, IsPassedNow, is_look, IsPassed, IsGreatestOrZero, register, least_of, level, barrier}
 
 -- ---- the least value over links
@@ -160,7 +160,7 @@ is_used-before BestEffort (Dropped l) past link used = if_false (l == link) (is_
 is_used-before Commit (Received l be commit) past link used = used
 is_used-before Commit (Counted l be commit) past link used = used
 is_used-before Commit (WentDown l) past link used = used
-is_used-before Commit (Dropped l) past link used = if_false (l == link) (is_kept past link) used
+is_used-before Commit (Dropped l) past link used = if_false (l == link) (is_retained past link) used
 
 -- a link that passes a test is among those that pass it
 stays_among : (t : Bool) (link : ℕ) (l : LinkId) (ls : List LinkId) → (l.0 == link) ≡ true → t ≡ true → has_link link (cond t (l ∷ ls) ls) ≡ true

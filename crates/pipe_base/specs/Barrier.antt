@@ -13,13 +13,16 @@ field_of Commit be commit = commit
 -- a packet whose field is at least the bound was received on the link
 abbrev pub HasReceived : Plane → ℕ → ℕ → List Moment → Type 0
 HasReceived plane bound link [] = ⊥
-HasReceived plane bound link (Received l be commit ∷ past) = ((l ≡ link) × (bound ≤ field_of plane be commit)) ⊎ HasReceived plane bound link past
-HasReceived plane bound link (Counted l be commit ∷ past) = ((l ≡ link) × (bound ≤ field_of plane be commit)) ⊎ HasReceived plane bound link past
+HasReceived plane bound link (Received l be commit ∷ past) = ((l ≡ link)
+    × (bound ≤ field_of plane be commit)) ⊎ HasReceived plane bound link past
+HasReceived plane bound link (Counted l be commit ∷ past) = ((l ≡ link)
+    × (bound ≤ field_of plane be commit)) ⊎ HasReceived plane bound link past
 HasReceived plane bound link (_ ∷ past) = HasReceived plane bound link past
 
 -- some in-link is in use, and from each of them a packet with at least the bound was received
 abbrev pub IsPassedNow : Plane → List LinkId → List Moment → ℕ → Type 0
-IsPassedNow plane ins past bound = (0 < length (in_use plane ins past)) × All (λ l. HasReceived plane bound l.0 past) (in_use plane ins past)
+IsPassedNow plane ins past bound = (0 < length (in_use plane ins past))
+    × All (λ l. HasReceived plane bound l.0 past) (in_use plane ins past)
 
 -- bounds are looked at after each moment but a counted one
 abbrev pub is_look : Moment → Bool
@@ -29,7 +32,8 @@ is_look _ = true
 -- the bound was passed at some moment
 abbrev pub IsPassed : Plane → List LinkId → List Moment → ℕ → Type 0
 IsPassed plane ins [] bound = ⊥
-IsPassed plane ins (m ∷ past) bound = (IsTrue (is_look m) × IsPassedNow plane ins (m ∷ past) bound) ⊎ IsPassed plane ins past bound
+IsPassed plane ins (m ∷ past) bound = (IsTrue (is_look m)
+    × IsPassedNow plane ins (m ∷ past) bound) ⊎ IsPassed plane ins past bound
 
 -- the greatest number that has the property, or 0 where none has it
 pub record IsGreatestOrZero (P : ℕ → Type 0) (bound : ℕ) : Type 0 where
@@ -39,8 +43,10 @@ pub record IsGreatestOrZero (P : ℕ → Type 0) (bound : ℕ) : Type 0 where
 -- the greatest field received on a link, or 0
 abbrev pub register : Plane → List Moment → ℕ → ℕ
 register plane [] link = 0
-register plane (Received l be commit ∷ past) link = if l == link then max (register plane past link) (field_of plane be commit) else register plane past link
-register plane (Counted l be commit ∷ past) link = if l == link then max (register plane past link) (field_of plane be commit) else register plane past link
+register plane (Received l be commit ∷ past) link =
+    if l == link then max (register plane past link) (field_of plane be commit) else register plane past link
+register plane (Counted l be commit ∷ past) link =
+    if l == link then max (register plane past link) (field_of plane be commit) else register plane past link
 register plane (_ ∷ past) link = register plane past link
 
 -- the least value over the links, or 0 where there is none
@@ -56,4 +62,5 @@ level plane ins past = least_of (register plane past) (in_use plane ins past)
 -- The barrier as a value: the greatest level at any moment that is looked at. It is the greatest bound passed.
 abbrev pub barrier : Plane → List LinkId → List Moment → ℕ
 barrier plane ins [] = 0
-barrier plane ins (m ∷ past) = if is_look m then max (barrier plane ins past) (level plane ins (m ∷ past)) else barrier plane ins past
+barrier plane ins (m ∷ past) =
+    if is_look m then max (barrier plane ins past) (level plane ins (m ∷ past)) else barrier plane ins past

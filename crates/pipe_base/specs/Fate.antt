@@ -13,11 +13,13 @@ fate_among recalled held key = if recalled then Recalled else if has_key key hel
 -- discarded where its sender is noted as failed from a time on that is not above it
 abbrev pub fate_from : Option Ts → Bool → Messages → Key → Fate
 fate_from None recalled held key = fate_among recalled held key
-fate_from (Some time) recalled held key = if nat_le time.0 key.ts.0 then Discarded time else fate_among recalled held key
+fate_from (Some time) recalled held key =
+    if nat_le time.0 key.ts.0 then Discarded time else fate_among recalled held key
 
 -- late where the barrier has passed it; then what the time of its sender makes of it, where there is one
 abbrev pub fate_of : ℕ → Option Ts → Bool → Messages → Key → Fate
-fate_of barrier failed recalled held key = if nat_lt key.ts.0 barrier then Late (record { 0 = barrier }) else fate_from failed recalled held key
+fate_of barrier failed recalled held key =
+    if nat_lt key.ts.0 barrier then Late (record { 0 = barrier }) else fate_from failed recalled held key
 
 -- with this fate the receiver holds the message, since now or before
 abbrev pub is_holding : Option Fate → Bool

@@ -24,16 +24,16 @@ is_up (WentDown l ∷ past) link = if l == link then false else is_up past link
 is_up (Dropped l ∷ past) link = if l == link then false else is_up past link
 is_up (_ ∷ past) link = is_up past link
 
--- a link is kept until it is dropped
-abbrev pub is_kept : List Moment → ℕ → Bool
-is_kept [] link = true
-is_kept (Dropped l ∷ past) link = if l == link then false else is_kept past link
-is_kept (_ ∷ past) link = is_kept past link
+-- a link is retained until it is dropped
+abbrev pub is_retained : List Moment → ℕ → Bool
+is_retained [] link = true
+is_retained (Dropped l ∷ past) link = if l == link then false else is_retained past link
+is_retained (_ ∷ past) link = is_retained past link
 
--- a link is in best-effort use while it is up, and in commit use while it is kept
+-- a link is in best-effort use while it is up, and in commit use while it is retained
 abbrev pub is_used : Plane → List Moment → ℕ → Bool
 is_used BestEffort past link = is_up past link
-is_used Commit past link = is_kept past link
+is_used Commit past link = is_retained past link
 
 -- the in-links that are in use
 abbrev pub in_use : Plane → List LinkId → List Moment → List LinkId
@@ -61,7 +61,3 @@ with_received looked (Some q) past = receipt looked q ∷ past
 abbrev pub with_downed : List (LinkId × Ts) → List Moment → List Moment
 with_downed [] past = past
 with_downed (d ∷ ds) past = with_downed ds (WentDown d.0.0 ∷ past)
-
-abbrev pub with_dropped : List LinkId → List Moment → List Moment
-with_dropped [] past = past
-with_dropped (l ∷ ls) past = with_dropped ls (Dropped l.0 ∷ past)

@@ -32,7 +32,8 @@ sent_to Reliable src ts f dest = prepare_to src ts f dest
 
 -- a receiver's acknowledgement of a reliable message, to the sender of the message
 abbrev pub ack_to : HostId → Fields → Packet → Packet
-ack_to src f p = record { kind = Ack; src = src; dst = p.src; ts = p.ts; be = ts_of f.be; commit = ts_of f.commit; body = [] }
+ack_to src f p =
+    record { kind = Ack; src = src; dst = p.src; ts = p.ts; be = ts_of f.be; commit = ts_of f.commit; body = [] }
 
 -- the taking back of the reliable message to one receiver of a scattering
 abbrev pub recall_to : HostId → Ts → Fields → (HostId × List ℕ) → Packet
@@ -48,4 +49,5 @@ forwarded f p = record p { be = ts_of f.be; commit = ts_of f.commit }
 
 -- a packet that carries its two barriers alone
 abbrev pub beacon : Fields → Packet
-beacon f = record { kind = Beacon; src = record { 0 = 0 }; dst = record { 0 = 0 }; ts = ts_of 0; be = ts_of f.be; commit = ts_of f.commit; body = [] }
+beacon f =
+    record { kind = Beacon; src = record { 0 = 0 }; dst = record { 0 = 0 }; ts = ts_of 0; be = ts_of f.be; commit = ts_of f.commit; body = [] }

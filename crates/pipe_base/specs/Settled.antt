@@ -30,7 +30,8 @@ is_recalled (_ ∷ past) s = is_recalled past s
 -- The host has said, since the scattering was recalled, that it took it back.
 abbrev pub is_recall_acked : List SenderCall → Scattering → ℕ → Bool
 is_recall_acked [] s host = false
-is_recall_acked (RecallAcked ts h ∷ past) s host = (((s.ts.0 == ts) && (host == h)) && is_recalled past s) || is_recall_acked past s host
+is_recall_acked (RecallAcked ts h ∷ past) s host = (((s.ts.0 == ts) && (host == h)) && is_recalled past s)
+    || is_recall_acked past s host
 is_recall_acked (_ ∷ past) s host = is_recall_acked past s host
 
 -- a recalled scattering waits for this receiver
@@ -43,7 +44,8 @@ is_prepared calls s = list_all (λ d. is_acked calls s.ts.0 d.0.0) s.dests
 
 -- Settled: where it is recalled, no receiver is waited for any more; otherwise all receivers have acknowledged it.
 abbrev pub is_settled : List SenderCall → Scattering → Bool
-is_settled calls s = if is_recalled calls s then not (list_any (λ d. awaits calls s d.0.0) s.dests) else is_prepared calls s
+is_settled calls s =
+    if is_recalled calls s then not (list_any (λ d. awaits calls s d.0.0) s.dests) else is_prepared calls s
 
 -- the scatterings that are not settled, the oldest first
 abbrev pub unsettled : List SenderCall → List Scattering

@@ -1,10 +1,11 @@
-// The body of a message.
+// What a message carries.
 ghost use Rattle.std.specs.Prelude.{◌≡◌, ◌<◌, ◌≤◌, ◌↔◌, ℕ, [], length, IfOk};
+ghost use Rattle.pipe_base.specs.Limits.{most_body};
 
-use crate::NoMemory;
+use crate::{NoMemory, SharedList};
 use std::alloc::{AllocError, Global};
 use std::marker::Model;
-use std::rc::RcSlice;
+use thiserror::Error;
 
 /// The most bytes that a body has.
 pub const BODY_LIMIT: usize = 1024;
@@ -12,19 +13,18 @@ pub const BODY_LIMIT: usize = 1024;
 /// The bytes of a message, at most `BODY_LIMIT`. Copies share them: a copy takes constant time and no memory.
 #[derive(Debug, Drop)]
 pub struct Body {
-    // None where there is no byte.
-    block: Option<RcSlice<u8>>,
+    bytes: SharedList<u8>,
 }
 
 impl Model for Body {
     ghost use Rattle.std.specs.Prelude.{List, ℕ, ◌≤◌, length};
-    ghost use Rattle.pipe_base.specs.Shared.{shared_bytes};
+    ghost use Rattle.pipe_base.specs.Limits.{most_body};
 
     ghost Value = { List ℕ };
 
-    ghost view = { λ b. shared_bytes b.block };
+    ghost view = { λ b. b.bytes };
 
-    ghost invariant = { λ b. length (shared_bytes b.block) ≤ 1024 };
+    ghost invariant = { λ b. length b.bytes ≤ most_body };
 }
 
 impl Clone for Body {
@@ -33,28 +33,28 @@ impl Clone for Body {
     ghost is_clone = { λ body copy. copy ≡ body };
 
     fn clone(&self) -> Result<Body, AllocError> {
-        let block = match &self.block {
-            Some(block) => Some(block.clone()?),
-            None => None,
-        };
-        Ok(Body { block })
+        Ok(Body {
+            bytes: self.bytes.clone()?,
+        })
     }
 }
 
 /// Why there is no body.
-#[derive(Clone, Copy, Debug, PartialEq, Eq)]
+#[derive(Clone, Copy, Debug, PartialEq, Eq, Error)]
 pub enum BodyFault {
+    #[error("{len} bytes are more than a body has")]
     TooLong { len: usize },
+    #[error("no memory")]
     NoMemory,
 }
 
-impl From<AllocError> for BodyFault {
+impl From<NoMemory> for BodyFault {
     ghost use Rattle.std.specs.Prelude.{◌≡◌};
     ghost use Rattle.pipe_base.specs.declared.body.BodyFault.TheVariants.{NoMemory};
 
     ghost from_gives = { λ _ e. e ≡ NoMemory };
 
-    fn from(_: AllocError) -> Self {
+    fn from(_: NoMemory) -> Self {
         BodyFault::NoMemory
     }
 }
@@ -62,51 +62,47 @@ impl From<AllocError> for BodyFault {
 impl Body {
     pub fn new(alloc: Global, bytes: &[u8]) -> Result<Body, BodyFault>
         ensures ok { IfOk result (λ body. body ≡ bytes.now) }
-        ensures too_long { (n : ℕ) → (result ≡ Err (BodyFault.TooLong n)) ↔ ((1024 < length bytes.now) × (n ≡ length bytes.now)) }
+        ensures too_long { (n : ℕ) → (result ≡ Err (BodyFault.TooLong n)) ↔ ((most_body < length bytes.now)
+            × (n ≡ length bytes.now)) }
     {
         if bytes.len() > BODY_LIMIT {
             return Err(BodyFault::TooLong { len: bytes.len() });
         }
-        if bytes.is_empty() {
-            return Ok(Body::empty(alloc));
-        }
-        Ok(Body {
-            block: Some(RcSlice::from_slice(alloc, bytes)?),
-        })
+        let Ok(bytes) = Vec::from_slice(alloc, bytes) else {
+            return Err(BodyFault::NoMemory);
+        };
+        Body::from_vec(bytes)
     }
 
     /// The body of a `Vec`'s bytes, which moves into it.
     pub fn from_vec(bytes: Vec<u8>) -> Result<Body, BodyFault>
         ensures ok { IfOk result (λ body. body ≡ bytes.items) }
-        ensures too_long { (n : ℕ) → (result ≡ Err (BodyFault.TooLong n)) ↔ ((1024 < length bytes.items) × (n ≡ length bytes.items)) }
+        ensures too_long { (n : ℕ) → (result ≡ Err (BodyFault.TooLong n)) ↔ ((most_body < length bytes.items)
+            × (n ≡ length bytes.items)) }
     {
         let len = bytes.len();
         if len > BODY_LIMIT {
             return Err(BodyFault::TooLong { len });
         }
-        let block = if len == 0 {
-            None
-        } else {
-            Some(RcSlice::from_vec(bytes)?)
-        };
-        Ok(Body { block })
+        Ok(Body {
+            bytes: SharedList::from_vec(bytes)?,
+        })
     }
 
     /// The empty body. Takes no memory.
-    pub fn empty(_alloc: Global) -> Body
+    pub fn empty(alloc: Global) -> Body
         ensures { result ≡ [] }
     {
-        Body { block: None }
+        Body {
+            bytes: SharedList::empty(alloc),
+        }
     }
 
     pub fn bytes(&self) -> &[u8]
         ensures value { result.now ≡ self.now }
-        ensures short { length self.now ≤ 1024 }
+        ensures short { length self.now ≤ most_body }
     {
-        match &self.block {
-            Some(block) => block.as_slice(),
-            None => &[],
-        }
+        self.bytes.as_slice()
     }
 
     /// Another owner of the same bytes. Takes no memory: `NoMemory` means that they have as many owners as can be counted.

@@ -1,6 +1,6 @@
 // What nodes and the controller tell each other.
 
-use crate::{HostId, LinkId, List, NoMemory, NodeId, Ts};
+use crate::{HostId, LinkId, List, NoMemory, NodeId, SharedList, Ts};
 
 /// A failed host, and the time from which its reliable messages are discarded.
 #[derive(Clone, Copy, Debug, PartialEq, Eq)]
@@ -22,7 +22,7 @@ pub enum To {
     Node(NodeId),
 }
 
-/// A control message.
+/// A control message. A copy takes no memory: its list is shared.
 #[derive(Clone, Debug, Drop)]
 pub enum Control {
     /// To the controller: this link went down with this commit register.
@@ -30,11 +30,11 @@ pub enum Control {
     /// To a node: take this link down.
     Freeze { link: LinkId },
     /// To a host: these hosts have failed.
-    Notice { list: AnnouncedList },
+    Notice { list: SharedList<Announced> },
     /// To the controller: the host has noted that many failed hosts.
     Done { host: HostId, count: u16 },
     /// To a node: these links are dropped.
-    DropLinks { links: LinkList },
+    DropLinks { links: SharedList<LinkId> },
     /// To the controller: the node knows that many dropped links.
     Gone { node: NodeId, count: u16 },
 }

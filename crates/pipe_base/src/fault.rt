@@ -1,4 +1,4 @@
-// The two refusals that stand alone.
+// The refusal that every crate knows, and what there may be too much of.
 
 use std::alloc::{AllocError, AllocFailed};
 
@@ -17,10 +17,6 @@ impl<T: Drop> From<AllocFailed<T>> for NoMemory {
         NoMemory
     }
 }
-
-/// A call to the outside failed: a fault that the object counts.
-#[derive(Clone, Copy, Debug, PartialEq, Eq)]
-pub struct Failed;
 
 /// What an input or a run has too much of.
 #[derive(Clone, Copy, Debug, PartialEq, Eq)]

@@ -2,9 +2,8 @@
 ghost use Rattle.std.specs.Prelude.{◌≡◌, IfOk, map, true, Some, [], ◌∷◌};
 ghost use Rattle.pipe_base.specs.Kept.{step_of};
 ghost use Rattle.pipe_base.specs.Packets.{beacon};
-ghost use Rattle.pipe_base.specs.ShortestRoute.{picked};
+ghost use Rattle.pipe_base.specs.Ways.{picked, with_beacons, with_ways};
 ghost use Rattle.pipe_base.specs.Step.{quiet_step};
-ghost use Rattle.pipe_base.specs.Ways.{with_beacons, with_ways};
 
 use crate::puts::{add_beacons, one_beacon};
 use crate::step::{copy_entries, copy_puts};
@@ -304,14 +303,16 @@ impl Step {
 
     // It did nothing but put packets, which it may have stamped, and have a fate.
     fn puts_alone(&self) -> bool
-        ensures { result ≡ true → self.now ≡ record (quiet_step Outcome.Ok) { put = self.now.put; stamped = self.now.stamped; fate = self.now.fate } }
+        ensures { result ≡ true
+            → self.now ≡ record (quiet_step Outcome.Ok) { put = self.now.put; stamped = self.now.stamped; fate = self.now.fate } }
     {
         self.is_plain() && self.logged.is_empty()
     }
 
     // It did nothing but log, and have a fate.
     fn logs_alone(&self) -> bool
-        ensures { result ≡ true → self.now ≡ record (quiet_step Outcome.Ok) { fate = self.now.fate; logged = self.now.logged } }
+        ensures { result ≡ true
+            → self.now ≡ record (quiet_step Outcome.Ok) { fate = self.now.fate; logged = self.now.logged } }
     {
         self.is_plain() && self.put.is_empty() && self.stamped.is_none()
     }
@@ -325,7 +326,8 @@ impl Step {
 
     // It did nothing but put packets, stamp, have a fate and log.
     fn is_plain(&self) -> bool
-        ensures { result ≡ true → self.now ≡ record (quiet_step Outcome.Ok) { put = self.now.put; stamped = self.now.stamped; fate = self.now.fate; logged = self.now.logged } }
+        ensures { result ≡ true
+            → self.now ≡ record (quiet_step Outcome.Ok) { put = self.now.put; stamped = self.now.stamped; fate = self.now.fate; logged = self.now.logged } }
     {
         self.control.is_empty()
             && self.downed.is_empty()

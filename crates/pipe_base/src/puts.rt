@@ -1,8 +1,7 @@
 // What a step puts: packets on their ways, and beacons.
 ghost use Rattle.std.specs.Prelude.{◌≡◌, ◌+◌, ◌++◌, ◌<◌, ◌^◌, [], ◌∷◌, map, OnErr, OnOk};
 ghost use Rattle.pipe_base.specs.Packets.{beacon};
-ghost use Rattle.pipe_base.specs.ShortestRoute.{picked};
-ghost use Rattle.pipe_base.specs.Ways.{PutsAlone, with_beacons, with_ways};
+ghost use Rattle.pipe_base.specs.Ways.{picked, PutsAlone, with_beacons, with_ways};
 
 use crate::{Body, HostId, LinkId, NoMemory, Packet, PacketKind, PutList, Router, Step, Ts};
 use std::alloc::Global;

@@ -1,7 +1,7 @@
 // Where a packet goes next.
 ghost use Rattle.std.specs.Prelude.{List, ◌≡◌};
 ghost use Rattle.pipe_base.specs.declared.name.LinkId.{LinkId};
-ghost use Rattle.pipe_base.specs.ShortestRoute.{picked};
+ghost use Rattle.pipe_base.specs.Ways.{picked};
 
 use crate::{HostId, LinkId};
 

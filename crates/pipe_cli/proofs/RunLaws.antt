@@ -1,7 +1,7 @@
 -- Lemmas on running events one by one.
 use Rattle.std.proofs.Common.{◌≡◌, ℕ, List, [], ◌∷◌, ◌++◌, map, refl, ap, sym, ◌∙◌, append_assoc}
 use Rattle.std.proofs.lemmas.List.{map-append}
-use Rattle.pipe_base.specs.Graph.{Graph}
+use Rattle.pipe_graph.specs.Graph.{Graph}
 use Rattle.pipe_model.specs.declared.event.Event.{Event}
 use Rattle.pipe_model.specs.declared.record.Record.{Record}
 use Rattle.pipe_model.specs.Items.{Overfills}

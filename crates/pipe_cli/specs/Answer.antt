@@ -3,7 +3,7 @@ use Rattle.std.specs.Prelude.{◌≡◌, ◌≢◌, ◌⊎◌, ℕ, ◌+◌, ◌
 use Rattle.std.specs.Prelude as result
 use Rattle.std.specs.Io.KnownBytes.{Appends, Consumes, IsAtEnd}
 use Rattle.pipe_base.specs.Limits.{most_bytes}
-use Rattle.pipe_base.specs.Outside.{Rose}
+use Rattle.pipe_outside.specs.Outside.{Rose}
 use Rattle.pipe_model.specs.declared.record.Record.{Record}
 use Rattle.pipe_text_input.specs.Content.{Content, content_of}
 use Rattle.pipe_topo.specs.Plan.{graph_of}
@@ -86,4 +86,5 @@ pub record DoesReplay (words : List (List ℕ)) (status : Status) (left rest old
 -- Where nothing fails and there is memory, the status is what the first bytes of the source ask for.
 abbrev pub IsComplete : List (List ℕ) → Option (List ℕ) → Status → Type 0
 IsComplete words left status =
-    IsSomeForm words → (bytes : List ℕ) → left ≡ Some bytes → AsksFor (take (most_bytes + 1) bytes) status ⊎ (status ≡ NoMemory)
+    IsSomeForm words → (bytes : List ℕ) → left ≡ Some bytes
+    → AsksFor (take (most_bytes + 1) bytes) status ⊎ (status ≡ NoMemory)

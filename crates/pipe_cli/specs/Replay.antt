@@ -2,7 +2,7 @@
 use Rattle.std.specs.Prelude.{◌≡◌, ℕ, ◌≤◌, All, List, ◌++◌, reverse, Ok, Err}
 use Rattle.pipe_base.specs.declared.fault.Size.{Size}
 use Rattle.pipe_base.specs.declared.fault.Size.TheVariants.{Bytes, Events, Items}
-use Rattle.pipe_base.specs.Graph.{Graph}
+use Rattle.pipe_graph.specs.Graph.{Graph}
 use Rattle.pipe_base.specs.Limits.{most_items}
 use Rattle.pipe_model.specs.declared.event.Event.{Event}
 use Rattle.pipe_model.specs.declared.record.Record.{Record}
@@ -47,7 +47,7 @@ pub record IsOrderedRun (graph : Graph) (events : List Event) (trace : List Reco
 -- the text of a trace by the form: that of its logs, with `--trace` that of the trace before it
 abbrev pub replay_text : Form → List (List ℕ) → Graph → List Record → List ℕ
 replay_text Replay names graph trace = log_text names graph (reverse trace)
-replay_text ReplayTrace names graph trace = trace_text names graph.hosts trace ++ log_text names graph (reverse trace)
+replay_text ReplayTrace names graph trace = trace_text names trace ++ log_text names graph (reverse trace)
 
 -- the bytes tell a network and events, the trace is their run, and the text is that of the form
 pub record Replays (form : Form) (bytes : List ℕ) (trace : List Record) (text : List ℕ) : Type 0 where

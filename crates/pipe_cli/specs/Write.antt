@@ -1,7 +1,7 @@
 -- What a failed write leaves.
 use Rattle.std.specs.Prelude.{◌≡◌, ℕ, List, Option}
 use Rattle.std.specs.Io.KnownBytes.{Keeps}
-use Rattle.pipe_base.specs.Outside.{Rose}
+use Rattle.pipe_outside.specs.Outside.{Rose}
 
 -- Nothing was written after a fault: the sink came without one to the call that failed, and what was written is what was
 -- written before that call.

@@ -1,9 +1,9 @@
 // The input, read to its end.
 ghost use Rattle.std.specs.Prelude.{◌≡◌, IfOk, OnOk, Result};
-ghost use Rattle.pipe_base.specs.Outside.{Rose};
+ghost use Rattle.pipe_outside.specs.Outside.{Rose};
 ghost use Rattle.pipe_cli.specs.Read.{WasRead};
 
-use pipe_base::Source;
+use pipe_outside::Source;
 use std::alloc::Global;
 
 /// The most bytes that an input has.

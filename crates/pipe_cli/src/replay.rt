@@ -18,7 +18,7 @@ use pipe_text::Text;
 use pipe_text_input::{Input, read_input};
 use pipe_text_log::print_logs;
 use pipe_text_trace::print_trace;
-use pipe_topo::{Names, Topology};
+use pipe_topo::{NodeNames, Topology};
 use pipe_world::{StepFault, World};
 use std::alloc::Global;
 use std::collections::VecDeque;
@@ -51,8 +51,10 @@ pub fn replay(alloc: Global, form: Form, bytes: Vec<u8>) -> Result<Replayed, Sta
 
 fn run_input(alloc: Global, form: Form, input: Input) -> Result<Replayed, Status>
     requires { All (IsOfGraph input.topology) input.events }
-    ensures ok { IfOk result (λ done. (bytes : List ℕ) → length bytes ≤ most_bytes → IsRead (content_of bytes) input → Replays form bytes done.trace done.text) }
-    ensures err { IfErr result (λ status. (bytes : List ℕ) → length bytes ≤ most_bytes → IsRead (content_of bytes) input → IsRefusal bytes status) }
+    ensures ok { IfOk result (λ done. (bytes : List ℕ) → length bytes ≤ most_bytes → IsRead (content_of bytes) input
+        → Replays form bytes done.trace done.text) }
+    ensures err { IfErr result (λ status. (bytes : List ℕ) → length bytes ≤ most_bytes → IsRead (content_of bytes) input
+        → IsRefusal bytes status) }
 {
     let Input {
         names,
@@ -82,7 +84,8 @@ fn run_all(mut world: World, events: EventList) -> Result<World, StepFault>
     requires known { All (IsOfGraph world.graph) events }
     ensures graph { IfOk result (λ after. after.graph ≡ world.graph) }
     ensures ran { IfOk result (λ after. map event_of after.trace ≡ events) }
-    ensures stopped { IfErr result (λ fault. (items : ℕ) → fault ≡ StepFault.Full items → IsStopped world.graph events items) }
+    ensures stopped { IfErr result (λ fault. (items : ℕ) → fault ≡ StepFault.Full items
+        → IsStopped world.graph events items) }
 {
     match run_events(&mut world, events) {
         Ok(()) => Ok(world),
@@ -91,7 +94,7 @@ fn run_all(mut world: World, events: EventList) -> Result<World, StepFault>
 }
 
 /// The text of what happened in a world, and its trace.
-fn show(alloc: Global, form: Form, names: &Names, world: World) -> Result<Replayed, NoMemory>
+fn show(alloc: Global, form: Form, names: &NodeNames, world: World) -> Result<Replayed, NoMemory>
     ensures run { IfOk result (λ done. IsOrderedRun world.graph (map event_of world.trace) done.trace) }
     ensures text { IfOk result (λ done. done.text ≡ replay_text form names.now world.graph done.trace) }
 {
@@ -106,7 +109,7 @@ fn show(alloc: Global, form: Form, names: &Names, world: World) -> Result<Replay
 fn text_of(
     alloc: Global,
     form: Form,
-    names: &Names,
+    names: &NodeNames,
     topology: &Topology,
     trace: &Trace,
 ) -> Result<Text, NoMemory>
@@ -116,7 +119,7 @@ fn text_of(
     match form {
         Form::Replay => Ok(logs),
         Form::ReplayTrace => {
-            let mut text = print_trace(alloc, names, topology.hosts(), trace)?.into_vec();
+            let mut text = print_trace(alloc, names, trace)?.into_vec();
             text.extend_from_slice(logs.as_slice())?;
             Ok(List::from_vec(text))
         }
@@ -129,7 +132,8 @@ fn run_events(world: &mut World, events: EventList) -> Result<(), StepFault>
     requires known { All (IsOfGraph world.old.graph) events }
     ensures graph { world.new.graph ≡ world.old.graph }
     ensures ran { OnOk result (map event_of world.new.trace ≡ events) }
-    ensures stopped { IfErr result (λ fault. (items : ℕ) → fault ≡ StepFault.Full items → IsStopped world.old.graph events items) }
+    ensures stopped { IfErr result (λ fault. (items : ℕ) → fault ≡ StepFault.Full items
+        → IsStopped world.old.graph events items) }
 {
     let mut left = VecDeque::from_vec(events.into_vec());
     'running: while let Some(event) = left.pop_front() {

@@ -1,6 +1,6 @@
 // The top call.
 ghost use Rattle.std.specs.Prelude.{◌≡◌, ◌≢◌, ◌↔◌, [], true, false, map, string_bytes};
-ghost use Rattle.pipe_base.specs.Outside.{Rose};
+ghost use Rattle.pipe_outside.specs.Outside.{Rose};
 ghost use Rattle.pipe_cli.specs.Answer.{IsOfInput, IsCaused, IsWritten, DoesReplay, IsComplete};
 ghost use Rattle.pipe_cli.specs.Form.{IsSomeForm};
 ghost use Rattle.pipe_cli.specs.Status.{has_text};
@@ -11,8 +11,9 @@ use crate::replay::{Replayed, replay};
 use crate::status::Status;
 use crate::words::{Words, form_of};
 use crate::write::write_all;
-use pipe_base::{Failed, List, Sink, Source};
+use pipe_base::List;
 use pipe_model::Trace;
+use pipe_outside::{Failed, Sink, Source};
 use std::alloc::Global;
 
 /// How the program ended, and what happened in its run. The trace is empty but with the status `Ok` and
@@ -36,10 +37,13 @@ pub fn run<S: Source, K: Sink>(
     ensures unread { result.status ≡ Status.Usage → source.new ≡ source.old }
     ensures input { IsOfInput (S.left source.old) (S.left source.new) result.status }
     ensures cause { IsCaused result.status (S.faults source.old) (S.faults source.new) (K.faults sink.old) (K.faults sink.new) }
-    ensures replay { has_text result.status ≡ true → DoesReplay (map string_bytes words.now) result.status (S.left source.old) (S.left source.new) (K.written sink.old) (K.written sink.new) result.trace }
+    ensures replay { has_text result.status ≡ true
+        → DoesReplay (map string_bytes words.now) result.status (S.left source.old) (S.left source.new) (K.written sink.old) (K.written sink.new) result.trace }
     ensures last { result.status ≡ Status.WriteFault → EndsAtFault K.written K.faults sink.old sink.new }
     ensures silent { has_text result.status ≡ false → (sink.new ≡ sink.old) × (result.trace ≡ []) }
-    ensures complete { ¬ Rose (S.faults source.old) (S.faults source.new) → ¬ Rose (K.faults sink.old) (K.faults sink.new) → IsComplete (map string_bytes words.now) (S.left source.old) result.status }
+    ensures complete { ¬ Rose (S.faults source.old) (S.faults source.new)
+        → ¬ Rose (K.faults sink.old) (K.faults sink.new)
+        → IsComplete (map string_bytes words.now) (S.left source.old) result.status }
 {
     let Some(form) = form_of(words) else {
         return stopped(alloc, Status::Usage);

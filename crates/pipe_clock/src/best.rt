@@ -1,8 +1,7 @@
 // The sender of best-effort scatterings.
 ghost use Rattle.std.specs.Prelude.{◌≡◌, ◌+◌, ◌<◌, ◌^◌, length, map, OnErr, OnOk};
 ghost use Rattle.pipe_base.specs.Packets.{message_to};
-ghost use Rattle.pipe_base.specs.ShortestRoute.{picked};
-ghost use Rattle.pipe_base.specs.Ways.{PutsAlone, with_ways};
+ghost use Rattle.pipe_base.specs.Ways.{picked, PutsAlone, with_ways};
 
 use crate::messages::scatter;
 use pipe_base::{DestList, HostId, NoMemory, Router, Service, Step, Ts};

@@ -1,8 +1,7 @@
 // The messages of a scattering.
 ghost use Rattle.std.specs.Prelude.{◌≡◌, ◌+◌, ◌<◌, ◌^◌, length, map, IfOk, OnErr, OnOk};
 ghost use Rattle.pipe_base.specs.Packets.{sent_to};
-ghost use Rattle.pipe_base.specs.ShortestRoute.{picked};
-ghost use Rattle.pipe_base.specs.Ways.{PutsAlone, with_ways};
+ghost use Rattle.pipe_base.specs.Ways.{picked, PutsAlone, with_ways};
 
 use pipe_base::{Dest, DestList, HostId, NoMemory, Packet, PacketKind, Router, Service, Step, Ts};
 

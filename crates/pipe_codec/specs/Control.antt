@@ -37,7 +37,8 @@ IsReceiver (Node node) = node.0 < 65535
 -- lists are not empty and not too long, and times fit their bytes
 abbrev pub HasContents : Control → Type 0
 HasContents (message.Down link value) = value.0 < 2 ^ 48
-HasContents (message.Notice list) = (1 ≤ length list) × (length list ≤ most_announced) × All (λ e. e.time.0 < 2 ^ 48) list
+HasContents (message.Notice list) = (1 ≤ length list) × (length list ≤ most_announced)
+    × All (λ e. e.time.0 < 2 ^ 48) list
 HasContents (message.DropLinks links) = (1 ≤ length links) × (length links ≤ most_dropped)
 HasContents _ = Unit {0}
 
@@ -107,7 +108,8 @@ control_header kind to contents = 1 ∷ control_code kind ∷ two_bytes to ++ tw
 
 -- the one spelling of a control message
 unfoldable pub control_bytes : Addressed → List ℕ
-control_bytes a = control_header (control_kind a.control) (receiver_number a.to) (length (contents_bytes a.control)) ++ contents_bytes a.control
+control_bytes a =
+    control_header (control_kind a.control) (receiver_number a.to) (length (contents_bytes a.control)) ++ contents_bytes a.control
 
 -- ---- the faults
 

@@ -11,7 +11,8 @@ use Rattle.pipe_codec.specs.Number.{two_bytes, six_bytes, two_at, six_at}
 
 -- the packet that is seen in bytes
 abbrev pub packet_seen : PacketRef → Packet
-packet_seen p = record { kind = p.kind; src = p.src; dst = p.dst; ts = p.ts; be = p.be; commit = p.commit; body = p.body.now }
+packet_seen p =
+    record { kind = p.kind; src = p.src; dst = p.dst; ts = p.ts; be = p.be; commit = p.commit; body = p.body.now }
 
 -- ---- the grammar
 

@@ -10,7 +10,7 @@ use crate::place::{six_at, two_at};
 use crate::{Bad, ControlFault};
 use pipe_base::{
     Addressed, Announced, AnnouncedList, Control, HostId, LinkId, LinkList, List, NoMemory, NodeId,
-    To, Ts,
+    SharedList, To, Ts,
 };
 use std::alloc::Global;
 
@@ -104,14 +104,14 @@ fn read_contents(alloc: Global, kind: ControlKind, contents: &[u8]) -> Result<Co
             link: LinkId(two_at(0, contents)),
         }),
         ControlKind::Notice => Ok(Control::Notice {
-            list: read_announced(alloc, contents)?,
+            list: SharedList::from_list(read_announced(alloc, contents)?)?,
         }),
         ControlKind::Done => Ok(Control::Done {
             host: HostId(two_at(0, contents)),
             count: two_at(2, contents),
         }),
         ControlKind::DropLinks => Ok(Control::DropLinks {
-            links: read_links(alloc, contents)?,
+            links: SharedList::from_list(read_links(alloc, contents)?)?,
         }),
         ControlKind::Gone => Ok(Control::Gone {
             node: NodeId(two_at(0, contents)),

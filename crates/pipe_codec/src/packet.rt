@@ -95,7 +95,8 @@ pub fn decode(bytes: &[u8]) -> Result<PacketRef<'_>, Bad>
     // What is read is spelled so.
     ensures value { IfOk result (λ p. IsPacket (packet_seen p) × (packet_bytes (packet_seen p) ≡ bytes.now)) }
     // What is spelled so is read.
-    ensures again { (p : AnyPacket) → IsPacket p → packet_bytes p ≡ bytes.now → IsOkAnd result (λ found. packet_seen found ≡ p) }
+    ensures again { (p : AnyPacket) → IsPacket p → packet_bytes p ≡ bytes.now
+        → IsOkAnd result (λ found. packet_seen found ≡ p) }
 {
     let kind = read_kind(bytes)?;
     let packet = read_fields(kind, bytes);

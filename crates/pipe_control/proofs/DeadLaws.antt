@@ -2,7 +2,7 @@
 use Rattle.std.proofs.Common.{◌≡◌, ℕ, Bool, true, false, ◌&&◌, ◌||◌, not, if◌then◌else◌, List, [], ◌++◌, filter, replicate, Option, None, sym, ap, ◌∙◌}
 use Rattle.pipe_base.specs.declared.name.LinkId.{LinkId}
 use Rattle.pipe_base.specs.declared.name.Ts.{Ts}
-use Rattle.pipe_base.specs.Graph.{Graph, all_links}
+use Rattle.pipe_graph.specs.Graph.{Graph, all_links}
 use Rattle.pipe_control.specs.declared.controller.Controller.{Controller}
 use Rattle.pipe_control.specs.Known.{count_of, view_of}
 use Rattle.pipe_control.proofs.KnownLaws.{one_value}

@@ -7,8 +7,8 @@ use Rattle.pipe_base.specs.declared.name.LinkId.{LinkId}
 use Rattle.pipe_base.specs.declared.name.Ts.{Ts}
 use Rattle.pipe_base.specs.declared.step.Outcome.TheVariants.{Ok}
 use Rattle.pipe_base.specs.declared.step.Step.{Step}
-use Rattle.pipe_base.specs.Graph.{Graph}
-use Rattle.pipe_base.specs.Reported.{unreported}
+use Rattle.pipe_graph.specs.Graph.{Graph}
+use Rattle.pipe_graph.specs.Reported.{unreported}
 use Rattle.pipe_base.specs.Step.{quiet_step}
 use Rattle.pipe_control.specs.declared.controller.Controller.{Controller}
 use Rattle.pipe_control.specs.declared.controller.Decision.{Decision}

@@ -4,8 +4,8 @@ use Rattle.std.specs.List.{range_with_len}
 use Rattle.pipe_base.specs.declared.control.Announced.{Announced}
 use Rattle.pipe_base.specs.declared.name.HostId.{HostId}
 use Rattle.pipe_base.specs.declared.name.Ts.{Ts}
-use Rattle.pipe_base.specs.Cut.{is_cut}
-use Rattle.pipe_base.specs.Graph.{Graph}
+use Rattle.pipe_graph.specs.Cut.{is_cut}
+use Rattle.pipe_graph.specs.Graph.{Graph}
 use Rattle.pipe_control.specs.Known.{leaving_time}
 use Rattle.pipe_control.proofs.ListLaws.{from_next, going, going_none, going_past, going_with}
 use Rattle.pipe_model.specs.Decision.{can_go, host_id, time_at, with_time}

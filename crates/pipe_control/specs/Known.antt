@@ -2,9 +2,9 @@
 use Rattle.std.specs.Prelude.{◌≡◌, ℕ, ◌==◌, ◌&&◌, nat_le, if◌then◌else◌, Bool, List, length, slice_index_or, Option, Some, None}
 use Rattle.pipe_base.specs.declared.name.LinkId.{LinkId}
 use Rattle.pipe_base.specs.declared.name.Ts.{Ts}
-use Rattle.pipe_base.specs.Cut.{is_cut}
-use Rattle.pipe_base.specs.Graph.{Graph}
-use Rattle.pipe_base.specs.Reported.{unreported}
+use Rattle.pipe_graph.specs.Cut.{is_cut}
+use Rattle.pipe_graph.specs.Graph.{Graph}
+use Rattle.pipe_graph.specs.Reported.{unreported}
 use Rattle.pipe_control.specs.declared.controller.Change.{Change}
 use Rattle.pipe_control.specs.declared.controller.Controller.{Controller}
 use Rattle.pipe_control.specs.declared.controller.Decision.{Decision}

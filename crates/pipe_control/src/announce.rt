@@ -36,7 +36,7 @@ impl Controller {
         ensures known { OnOk result (Stands topology.now (after_announce topology.now (view_of self.old)) self.new) }
     {
         let news = self.news(topology)?;
-        self.announced = more_announced(&self.announced, &news)?;
+        self.announced = more_announced(self.alloc, &self.announced, &news)?;
         Ok(news)
     }
 

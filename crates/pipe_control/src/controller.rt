@@ -1,6 +1,6 @@
 // What the controller knows, and its decisions.
 ghost use Rattle.std.specs.Prelude.{◌≡◌, IfOk, OnErr, OnOk};
-ghost use Rattle.pipe_base.specs.Graph.{Graph};
+ghost use Rattle.pipe_graph.specs.Graph.{Graph};
 ghost use Rattle.pipe_control.specs.Known.{Fits, IsChange, IsDecision, IsSized, Stands};
 ghost use Rattle.pipe_model.specs.Controller.{decision};
 ghost use Rattle.pipe_model.specs.Decision.{after_decision};
@@ -8,10 +8,9 @@ ghost use Rattle.pipe_model.specs.View.{View, after_message, first_view};
 
 use crate::counts::Counts;
 use crate::heard::{note_done, note_gone, note_report};
-use crate::lists::{copy_announced, copy_links};
 use pipe_base::{
-    AddressedList, Announced, AnnouncedList, Control, KeptStep, LinkId, LinkList, List, NoMemory,
-    Step,
+    AddressedList, Announced, AnnouncedList, Control, KeptStep, LinkId, LinkList, NoMemory,
+    SharedList, Step,
 };
 use pipe_topo::{HostSet, LinkSet, Reports, Topology};
 use std::alloc::Global;
@@ -27,8 +26,8 @@ pub struct Controller {
     pub(crate) live: LinkSet,
     pub(crate) reports: Reports,
     pub(crate) doomed: HostSet,
-    pub(crate) announced: AnnouncedList,
-    pub(crate) dropped: LinkList,
+    pub(crate) announced: SharedList<Announced>,
+    pub(crate) dropped: SharedList<LinkId>,
     pub(crate) done: Counts,
     pub(crate) gone: Counts,
 }
@@ -60,8 +59,8 @@ impl Controller {
             live: LinkSet::all(alloc, links)?,
             reports: Reports::none(alloc, links)?,
             doomed: HostSet::none(),
-            announced: List::new(alloc),
-            dropped: List::new(alloc),
+            announced: SharedList::empty(alloc),
+            dropped: SharedList::empty(alloc),
             done: Counts::none(alloc, 64)?,
             gone: Counts::none(alloc, topology.nodes())?,
         })
@@ -72,7 +71,8 @@ impl Controller {
     /// greater than the list, a sender that is none, and a message to a node. Takes no memory.
     pub fn take(&mut self, control: &Control)
         requires { IsSized self.old }
-        ensures { (graph : Graph) (v : View) → Stands graph v self.old → Stands graph (after_message graph control.now v) self.new }
+        ensures { (graph : Graph) (v : View) → Stands graph v self.old
+            → Stands graph (after_message graph control.now v) self.new }
     {
         match control {
             Control::Down { link, value } => {
@@ -97,8 +97,10 @@ impl Controller {
     /// Works out a decision and what it changes. Nothing changes.
     pub fn work_decision(&self, topology: &Topology) -> Result<(Decision, Change), NoMemory>
         requires { Fits topology.now self.now }
-        ensures decision { IfOk result (λ done. (v : View) → Stands topology.now v self.now → IsDecision topology.now v done.0) }
-        ensures change { IfOk result (λ done. (v : View) → Stands topology.now v self.now → IsChange topology.now v done.1) }
+        ensures decision { IfOk result (λ done. (v : View) → Stands topology.now v self.now
+            → IsDecision topology.now v done.0) }
+        ensures change { IfOk result (λ done. (v : View) → Stands topology.now v self.now
+            → IsChange topology.now v done.1) }
     {
         let mut next = self.try_clone()?;
         next.doom(topology)?;
@@ -116,8 +118,10 @@ impl Controller {
     /// Works out a decision as a step, and what it changes. Nothing changes.
     pub fn work_step(&self, topology: &Topology) -> Result<(KeptStep, Change), NoMemory>
         requires { Fits topology.now self.now }
-        ensures step { IfOk result (λ done. (v : View) → Stands topology.now v self.now → done.0 ≡ decision topology.now v) }
-        ensures change { IfOk result (λ done. (v : View) → Stands topology.now v self.now → IsChange topology.now v done.1) }
+        ensures step { IfOk result (λ done. (v : View) → Stands topology.now v self.now
+            → done.0 ≡ decision topology.now v) }
+        ensures change { IfOk result (λ done. (v : View) → Stands topology.now v self.now
+            → IsChange topology.now v done.1) }
     {
         let (decision, change) = self.work_decision(topology)?;
         let mut step = Step::new(self.alloc);
@@ -130,7 +134,8 @@ impl Controller {
 
     /// Puts a decision's change in place. Takes no memory.
     pub fn follow(&mut self, change: Change)
-        ensures { (graph : Graph) (v : View) → Stands graph v self.old → IsChange graph v change → Stands graph (after_decision graph v) self.new }
+        ensures { (graph : Graph) (v : View) → Stands graph v self.old → IsChange graph v change
+            → Stands graph (after_decision graph v) self.new }
     {
         *self = change.next;
     }
@@ -138,8 +143,10 @@ impl Controller {
     /// Decides. Nothing changes where there is no memory.
     pub fn decide(&mut self, topology: &Topology) -> Result<Decision, NoMemory>
         requires { Fits topology.now self.old }
-        ensures decision { IfOk result (λ done. (v : View) → Stands topology.now v self.old → IsDecision topology.now v done) }
-        ensures ok { OnOk result ((v : View) → Stands topology.now v self.old → Stands topology.now (after_decision topology.now v) self.new) }
+        ensures decision { IfOk result (λ done. (v : View) → Stands topology.now v self.old
+            → IsDecision topology.now v done) }
+        ensures ok { OnOk result ((v : View) → Stands topology.now v self.old
+            → Stands topology.now (after_decision topology.now v) self.new) }
         ensures err { OnErr result (self.new ≡ self.old) }
     {
         let (decision, change) = self.work_decision(topology)?;
@@ -171,8 +178,8 @@ impl Controller {
             live: self.live.try_clone()?,
             reports: self.reports.try_clone()?,
             doomed: self.doomed,
-            announced: copy_announced(&self.announced)?,
-            dropped: copy_links(&self.dropped)?,
+            announced: self.announced.try_clone()?,
+            dropped: self.dropped.try_clone()?,
             done: self.done.try_clone()?,
             gone: self.gone.try_clone()?,
         })

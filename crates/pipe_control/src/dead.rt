@@ -1,7 +1,7 @@
 // Which links are dropped, and when.
 ghost use Rattle.std.specs.Prelude.{◌≡◌, ◌<◌, ◌&&◌, filter, length, not, IfOk, OnOk};
-ghost use Rattle.pipe_base.specs.Graph.{all_links};
-ghost use Rattle.pipe_base.specs.Useless.{is_useless};
+ghost use Rattle.pipe_graph.specs.Graph.{all_links};
+ghost use Rattle.pipe_graph.specs.Useless.{is_useless};
 ghost use Rattle.pipe_control.specs.Known.{Fits, Stands, view_of};
 ghost use Rattle.pipe_model.specs.Decision.{after_drop, all_over, is_dead, is_over, newly_dead};
 ghost use Rattle.pipe_model.specs.View.{intact, is_kept};
@@ -27,7 +27,7 @@ impl Controller {
         let kept = kept(&self.members, &self.doomed);
         let useless = useless(self.alloc, topology, &self.live, &self.reports, &kept)?;
         let dead = self.dead_links(topology, &useless)?;
-        let dropped = more_links(&self.dropped, &dead)?;
+        let dropped = more_links(self.alloc, &self.dropped, &dead)?;
         let live = self.links_left(topology, &useless)?;
         let reports = Reports::none(self.alloc, topology.links())?;
         self.members = kept;

@@ -3,17 +3,17 @@ ghost use Rattle.std.specs.Prelude.{◌≡◌, ◌&&◌, not};
 ghost use Rattle.pipe_base.specs.Failed.{is_announced};
 ghost use Rattle.pipe_topo.specs.Sets.{has};
 
-use pipe_base::{AnnouncedList, HostId, NodeId};
+use pipe_base::{Announced, HostId, NodeId, SharedList};
 use pipe_topo::HostSet;
 
 // The node is a host that is doomed and not yet announced.
-pub fn is_due(doomed: &HostSet, announced: &AnnouncedList, node: NodeId) -> bool
+pub fn is_due(doomed: &HostSet, announced: &SharedList<Announced>, node: NodeId) -> bool
     ensures { result ≡ (has doomed.now node.0 && not (is_announced node.0 announced.now)) }
 {
     doomed.has_node(node) && !is_announced(announced, node)
 }
 
-fn is_announced(announced: &AnnouncedList, node: NodeId) -> bool
+fn is_announced(announced: &SharedList<Announced>, node: NodeId) -> bool
     ensures { result ≡ is_announced node.0 announced.now }
 {
     announced

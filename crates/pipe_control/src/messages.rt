@@ -7,9 +7,8 @@ ghost use Rattle.pipe_model.specs.Decision.{drops, freeze, freezes, is_behind, i
 
 use crate::Controller;
 use crate::due::{is_due, is_kept};
-use crate::lists::{copy_announced, copy_links};
 use pipe_base::{
-    Addressed, AddressedList, AnnouncedList, Control, LinkId, LinkList, List, NoMemory, NodeId, To,
+    Addressed, AddressedList, Announced, Control, LinkId, List, NoMemory, NodeId, SharedList, To,
 };
 use pipe_topo::Topology;
 
@@ -100,24 +99,24 @@ fn freeze(topology: &Topology, link: LinkId) -> Addressed
     }
 }
 
-fn notice(host: u16, announced: &AnnouncedList) -> Result<Addressed, NoMemory>
+fn notice(host: u16, announced: &SharedList<Announced>) -> Result<Addressed, NoMemory>
     ensures { IfOk result (λ a. a ≡ record { to = Node (record { 0 = host }); control = Notice announced.now }) }
 {
     Ok(Addressed {
         to: To::Node(NodeId(host)),
         control: Control::Notice {
-            list: copy_announced(announced)?,
+            list: announced.try_clone()?,
         },
     })
 }
 
-fn drop_links(node: NodeId, dropped: &LinkList) -> Result<Addressed, NoMemory>
+fn drop_links(node: NodeId, dropped: &SharedList<LinkId>) -> Result<Addressed, NoMemory>
     ensures { IfOk result (λ a. a ≡ record { to = Node node; control = DropLinks dropped.now }) }
 {
     Ok(Addressed {
         to: To::Node(node),
         control: Control::DropLinks {
-            links: copy_links(dropped)?,
+            links: dropped.try_clone()?,
         },
     })
 }

@@ -3,16 +3,16 @@ use Rattle.std.proofs.Common.{◌≡◌, ℕ, ◌<◌, ◌==◌, Bool, true, fal
 use Rattle.std.specs.List.{list_any}
 use Rattle.std.proofs.lemmas.Bool.{eqb-true}
 use Rattle.pipe_base.specs.declared.name.Ts.{Ts}
-use Rattle.pipe_base.specs.Below.{any_below}
-use Rattle.pipe_base.specs.Graph.{Graph, IsGraph, tail_of, head_of, is_half}
-use Rattle.pipe_base.specs.Path.{LeavesBy, Leads, IsPath}
-use Rattle.pipe_base.specs.Reach.{feeds, reaches}
-use Rattle.pipe_paths.proofs.BelowLaws.{none_below}
-use Rattle.pipe_paths.proofs.PathLaws.{path_append, path_more}
-use Rattle.pipe_paths.proofs.Rounds.{has_path, is_reach}
-use Rattle.pipe_paths.proofs.Tests.{and_both, and_parts, not_from, not_gives, not_is, or_cases, or_left, or_right}
-use Rattle.pipe_base.specs.Cut.{IsCut, is_cut}
-use Rattle.pipe_base.specs.Reported.{is_reported, unreported}
+use Rattle.pipe_graph.specs.Below.{any_below}
+use Rattle.pipe_graph.specs.Graph.{Graph, IsGraph, tail_of, head_of, is_half}
+use Rattle.pipe_graph.specs.Path.{LeavesBy, Leads, IsPath}
+use Rattle.pipe_graph.specs.Reach.{feeds, reaches}
+use Rattle.pipe_graph.proofs.BelowLaws.{none_below}
+use Rattle.pipe_graph.proofs.PathLaws.{path_append, path_more}
+use Rattle.pipe_graph.proofs.Rounds.{has_path, is_reach}
+use Rattle.pipe_graph.proofs.Tests.{and_both, and_parts, not_from, not_gives, not_is, or_cases, or_left, or_right}
+use Rattle.pipe_graph.specs.Cut.{IsCut, is_cut}
+use Rattle.pipe_graph.specs.Reported.{is_reported, unreported}
 use Rattle.pipe_failtime.proofs.TestLaws.{and_fails, none_from}
 
 -- a link and what leads on from it by live links do so by unreported ones, or there is a reported link

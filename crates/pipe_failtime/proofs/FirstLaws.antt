@@ -1,11 +1,11 @@
 -- Lemmas on the host that must go next: there is exactly one, where any is left.
 use Rattle.std.proofs.Common.{◌≡◌, ℕ, zero, suc, ◌<◌, ◌≤◌, ◌==◌, nat_lt, Bool, true, false, ◌&&◌, ◌||◌, not, if◌then◌else◌, Option, None, Some, inl, inr, refl, sym, subst, ◌∙◌, true≢false, arith}
 use Rattle.std.proofs.lemmas.Bool.Decides.{nat_tests}
-use Rattle.pipe_base.specs.Below.{any_below}
-use Rattle.pipe_base.specs.Graph.{Graph}
-use Rattle.pipe_paths.proofs.BelowLaws.{any_below_gives, none_below}
-use Rattle.pipe_paths.proofs.Tests.{and_parts, and_both, not_from, not_gives, not_is}
-use Rattle.pipe_base.specs.Doomed.{Standing, GoesNext, are_partners, goes_before, goes_next, has_strangers, standing_of}
+use Rattle.pipe_graph.specs.Below.{any_below}
+use Rattle.pipe_graph.specs.Graph.{Graph}
+use Rattle.pipe_graph.proofs.BelowLaws.{any_below_gives, none_below}
+use Rattle.pipe_graph.proofs.Tests.{and_parts, and_both, not_from, not_gives, not_is}
+use Rattle.pipe_graph.specs.Doomed.{Standing, GoesNext, are_partners, goes_before, goes_next, has_strangers, standing_of}
 use Rattle.pipe_failtime.specs.First.{first_to_go, goes_rather, next_to_go}
 use Rattle.pipe_failtime.proofs.TestLaws.{below_next, none_from, and_fails}
 

@@ -1,7 +1,7 @@
 -- Lemmas on the table of who reaches whom, while it is made.
 use Rattle.std.proofs.Common.{◌≡◌, ℕ, ◌<◌, Bool, List, [], length, get_or}
-use Rattle.pipe_base.specs.Graph.{Graph}
-use Rattle.pipe_base.specs.Reach.{reaches}
+use Rattle.pipe_graph.specs.Graph.{Graph}
+use Rattle.pipe_graph.specs.Reach.{reaches}
 use Rattle.pipe_topo.specs.Sets.{has}
 
 -- the table has the first so many hosts

@@ -3,14 +3,14 @@ use Rattle.std.proofs.Common.{◌≡◌, ℕ, zero, suc, ◌+◌, ◌<◌, ◌�
 use Rattle.std.proofs.lemmas.Bool.{ltb-true}
 use Rattle.std.proofs.lemmas.Bool.Decides.{eqb_tells}
 use Rattle.std.proofs.lemmas.List.{get_or-set_same, get_or-set_other}
-use Rattle.pipe_base.specs.Below.{any_below}
-use Rattle.pipe_base.specs.Graph.{Graph, is_host}
-use Rattle.pipe_base.specs.Reach.{reaches}
-use Rattle.pipe_paths.proofs.BelowLaws.{none_below}
-use Rattle.pipe_paths.proofs.Tests.{and_parts, and_both, not_from, not_gives, not_is, or_cases, or_left, or_right, same_tests}
+use Rattle.pipe_graph.specs.Below.{any_below}
+use Rattle.pipe_graph.specs.Graph.{Graph, is_host}
+use Rattle.pipe_graph.specs.Reach.{reaches}
+use Rattle.pipe_graph.proofs.BelowLaws.{none_below}
+use Rattle.pipe_graph.proofs.Tests.{and_parts, and_both, not_from, not_gives, not_is, or_cases, or_left, or_right, same_tests}
 use Rattle.pipe_topo.specs.Sets.{has}
-use Rattle.pipe_base.specs.Count.{count_below}
-use Rattle.pipe_base.specs.Doomed.{after_round, after_rounds, are_partners, doomed, goes_next, has_strangers, is_left}
+use Rattle.pipe_graph.specs.Count.{count_below}
+use Rattle.pipe_graph.specs.Doomed.{after_round, after_rounds, are_partners, doomed, goes_next, has_strangers, is_left}
 use Rattle.pipe_failtime.specs.First.{next_to_go}
 use Rattle.pipe_failtime.proofs.FirstLaws.{IsNext, next_is, goes_alone, goes_first, one_goes, strangers_left}
 use Rattle.pipe_failtime.proofs.TestLaws.{and_fails, count_falls, count_most, none_counted, none_from}

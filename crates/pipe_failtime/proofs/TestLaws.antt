@@ -1,11 +1,11 @@
 -- Lemmas on tests of the numbers below a bound, and on how many pass.
 use Rattle.std.proofs.Common.{◌⊎◌, inl, inr, ◌≡◌, ℕ, zero, suc, ◌+◌, ◌<◌, ◌≤◌, Bool, true, false, ◌&&◌, refl, sym, true≢false, arith}
 use Rattle.std.proofs.lemmas.Bool.Decides.{eqb_tells}
-use Rattle.pipe_base.specs.Below.{any_below}
-use Rattle.pipe_paths.proofs.BelowLaws as paths
-use Rattle.pipe_paths.proofs.BelowLaws.{any_below_gives, count_gains}
-use Rattle.pipe_paths.proofs.Tests.{not_from}
-use Rattle.pipe_base.specs.Count.{count_below}
+use Rattle.pipe_graph.specs.Below.{any_below}
+use Rattle.pipe_graph.proofs.BelowLaws as paths
+use Rattle.pipe_graph.proofs.BelowLaws.{any_below_gives, count_gains}
+use Rattle.pipe_graph.proofs.Tests.{not_from}
+use Rattle.pipe_graph.specs.Count.{count_below}
 
 pub none_more : (p : ℕ → Bool) (k : ℕ) → any_below p k ≡ false → p k ≡ false → any_below p (k + 1) ≡ false
 none_more p k none isnt =

@@ -2,10 +2,10 @@
 use Rattle.std.proofs.Common.{◌≡◌, ℕ, zero, suc, ◌<◌, ◌≤◌, max, Bool, true, false, ◌&&◌, if◌then◌else◌, length, Option, None, Some, ◌⊎◌, inl, inr, refl, sym, ap, subst, ◌∙◌, arith}
 use Rattle.std.proofs.lemmas.Bool.Decides.{leb_tells}
 use Rattle.pipe_base.specs.declared.name.Ts.{Ts}
-use Rattle.pipe_base.specs.Graph.{Graph}
-use Rattle.pipe_base.specs.Reach.{feeds}
-use Rattle.pipe_paths.proofs.Tests.{and_both, and_parts}
-use Rattle.pipe_base.specs.FailureTime.{IsFailureTime, IsFedReport, failure_time, fed_report, later, latest_below}
+use Rattle.pipe_graph.specs.Graph.{Graph}
+use Rattle.pipe_graph.specs.Reach.{feeds}
+use Rattle.pipe_graph.proofs.Tests.{and_both, and_parts}
+use Rattle.pipe_graph.specs.FailureTime.{IsFailureTime, IsFedReport, failure_time, fed_report, later, latest_below}
 use Rattle.pipe_failtime.proofs.TestLaws.{below_next}
 
 -- what the latest time below a bound is: one of the times, and none is later; or there is none

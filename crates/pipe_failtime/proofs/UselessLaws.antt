@@ -1,12 +1,12 @@
 -- Lemmas on useless links.
 use Rattle.std.proofs.Common.{◌≡◌, ℕ, ◌<◌, Bool, true, false, ◌&&◌, not, List, ◌∷◌, ◌++◌, sym, ap, ◌∙◌, true≢false}
-use Rattle.pipe_base.specs.Graph.{Graph, IsGraph, tail_of}
-use Rattle.pipe_base.specs.Path.{IsPath}
-use Rattle.pipe_base.specs.Reach.{feeds}
-use Rattle.pipe_paths.proofs.BelowLaws.{none_below}
-use Rattle.pipe_paths.proofs.Rounds.{fed_along}
-use Rattle.pipe_paths.proofs.Tests.{and_both, and_parts, not_gives, not_is, not_from}
-use Rattle.pipe_base.specs.Useless.{IsUseless, is_fed, is_useless}
+use Rattle.pipe_graph.specs.Graph.{Graph, IsGraph, tail_of}
+use Rattle.pipe_graph.specs.Path.{IsPath}
+use Rattle.pipe_graph.specs.Reach.{feeds}
+use Rattle.pipe_graph.proofs.BelowLaws.{none_below}
+use Rattle.pipe_graph.proofs.Rounds.{fed_along}
+use Rattle.pipe_graph.proofs.Tests.{and_both, and_parts, not_gives, not_is, not_from}
+use Rattle.pipe_graph.specs.Useless.{IsUseless, is_fed, is_useless}
 use Rattle.pipe_topo.specs.Sets.{has}
 use Rattle.pipe_failtime.specs.Fed.{is_fed_from}
 use Rattle.pipe_failtime.specs.Filled.{IsFilled}

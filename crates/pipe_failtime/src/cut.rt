@@ -1,11 +1,11 @@
 // Hosts that are cut off.
 ghost use Rattle.std.specs.Prelude.{◌≡◌, ℕ, ◌<◌, ◌&&◌, length, IfOk};
-ghost use Rattle.pipe_base.specs.Below.{any_below};
-ghost use Rattle.pipe_base.specs.Reach.{reaches};
+ghost use Rattle.pipe_graph.specs.Below.{any_below};
+ghost use Rattle.pipe_graph.specs.Reach.{reaches};
 ghost use Rattle.pipe_topo.specs.Reports.{report_of};
 ghost use Rattle.pipe_topo.specs.Sets.{has};
-ghost use Rattle.pipe_base.specs.Cut.{is_cut};
-ghost use Rattle.pipe_base.specs.Reported.{unreported};
+ghost use Rattle.pipe_graph.specs.Cut.{is_cut};
+ghost use Rattle.pipe_graph.specs.Reported.{unreported};
 
 use crate::reported::unreported;
 use pipe_base::{HostId, NoMemory, NodeId};

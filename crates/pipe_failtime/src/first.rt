@@ -1,11 +1,12 @@
 // Which host must go next, of those that are left.
 ghost use Rattle.std.specs.Prelude.{◌≡◌, ℕ, ◌<◌, ◌≤◌, ◌&&◌, not, IfSome};
-ghost use Rattle.pipe_base.specs.Below.{any_below};
-ghost use Rattle.pipe_base.specs.Reach.{reaches};
+ghost use Rattle.pipe_graph.specs.Below.{any_below};
+ghost use Rattle.pipe_graph.specs.Reach.{reaches};
 ghost use Rattle.pipe_topo.specs.Sets.{has};
-ghost use Rattle.pipe_base.specs.Count.{count_below};
-ghost use Rattle.pipe_base.specs.Doomed.{are_partners, goes_before, has_strangers, is_stranger, standing_of};
+ghost use Rattle.pipe_graph.specs.Count.{count_below};
+ghost use Rattle.pipe_graph.specs.Doomed.{are_partners, goes_before, has_strangers, is_stranger, standing_of};
 ghost use Rattle.pipe_failtime.specs.First.{first_to_go, goes_rather, next_to_go};
+ghost use Rattle.pipe_base.specs.Limits.{most_hosts};
 
 use crate::reach::Reach;
 use pipe_base::HostId;
@@ -37,7 +38,7 @@ fn has_strangers(reach: &Reach<'_>, left: &HostSet) -> bool
 
 fn is_stranger(reach: &Reach<'_>, left: &HostSet, host: u16) -> bool
     requires host { host < reach.now.graph.hosts }
-    requires small { host < 64 }
+    requires small { host < most_hosts }
     ensures { result ≡ is_stranger reach.now.graph (has reach.now.by) (has left.now) host }
 {
     left.has(HostId(host)) && lacks_partner(reach, left, host)
@@ -70,7 +71,7 @@ fn first_to_go(reach: &Reach<'_>, left: &HostSet) -> Option<u16>
 
 fn goes_rather(reach: &Reach<'_>, left: &HostSet, first: Option<u16>, host: u16) -> bool
     requires host { host < reach.now.graph.hosts }
-    requires small { host < 64 }
+    requires small { host < most_hosts }
     requires first { IfSome first (λ f. f < reach.now.graph.hosts) }
     ensures { result ≡ goes_rather reach.now.graph (has reach.now.by) (has left.now) first host }
 {
@@ -95,7 +96,7 @@ struct Standing {
 }
 
 impl Model for Standing {
-    ghost use Rattle.pipe_base.specs.Doomed as doomed;
+    ghost use Rattle.pipe_graph.specs.Doomed as doomed;
 
     ghost Value = { doomed.Standing };
 

@@ -1,12 +1,13 @@
 // Links that no kept host can use.
 ghost use Rattle.std.specs.Prelude.{◌≡◌, ℕ, ◌<◌, ◌==◌, ◌&&◌, ◌||◌, length, not, IfOk};
-ghost use Rattle.pipe_base.specs.Graph.{is_half, tail_of};
+ghost use Rattle.pipe_graph.specs.Graph.{is_half, tail_of};
 ghost use Rattle.pipe_topo.specs.Reports.{report_of};
 ghost use Rattle.pipe_topo.specs.Sets.{has};
-ghost use Rattle.pipe_base.specs.Reported.{unreported};
-ghost use Rattle.pipe_base.specs.Useless.{is_useless};
+ghost use Rattle.pipe_graph.specs.Reported.{unreported};
+ghost use Rattle.pipe_graph.specs.Useless.{is_useless};
 ghost use Rattle.pipe_failtime.specs.Fed.{is_fed_from};
 ghost use Rattle.pipe_failtime.specs.Filled.{IsFilled};
+ghost use Rattle.pipe_base.specs.Limits.{most_hosts};
 
 use crate::reach::reachers;
 use crate::reported::unreported;
@@ -108,7 +109,7 @@ fn is_fed_from(
 
 // The host is the node, or is one of those that reach it, and that is a half.
 fn is_at(topology: &Topology, node: NodeId, reachers: &HostSet, host: u16) -> bool
-    requires { host < 64 }
+    requires { host < most_hosts }
     ensures { result ≡ ((host == node.0) || (is_half topology.now node.0 && has reachers.now host)) }
 {
     host == node.0 || topology.is_half(node) && reachers.has(HostId(host))

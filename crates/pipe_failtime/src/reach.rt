@@ -1,13 +1,14 @@
 // Who reaches whom by one set of links: found once, and looked up from then on.
 ghost use Rattle.std.specs.Prelude.{◌≡◌, ℕ, ◌<◌, ◌≤◌, length, IfOk};
 ghost use Rattle.std.specs.List.{list_any};
-ghost use Rattle.pipe_base.specs.Graph.{outs_of};
-ghost use Rattle.pipe_base.specs.Reach.{reaches};
+ghost use Rattle.pipe_graph.specs.Graph.{outs_of};
+ghost use Rattle.pipe_graph.specs.Reach.{reaches};
 ghost use Rattle.pipe_topo.specs.Sets.{has};
 ghost use Rattle.pipe_topo.specs.Walk.{leads_near};
-ghost use Rattle.pipe_base.specs.Doomed.{are_partners};
+ghost use Rattle.pipe_graph.specs.Doomed.{are_partners};
 ghost use Rattle.pipe_failtime.specs.Filled.{IsFilled};
 ghost use Rattle.pipe_failtime.specs.Reaching.{IsReachTable};
+ghost use Rattle.pipe_base.specs.Limits.{most_hosts};
 
 use pipe_base::{HostId, LinkId, NoMemory, NodeId};
 use pipe_topo::{Distances, FAR, HostSet, LinkSet, Topology};
@@ -51,7 +52,7 @@ impl<'a> Reach<'a> {
 
     pub fn hosts(&self) -> u16
         ensures value { result ≡ self.now.graph.hosts }
-        ensures few { result ≤ 64 }
+        ensures few { result ≤ most_hosts }
     {
         self.topology.hosts()
     }

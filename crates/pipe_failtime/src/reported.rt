@@ -2,7 +2,7 @@
 ghost use Rattle.std.specs.Prelude.{◌≡◌, ◌<◌, length, IfOk};
 ghost use Rattle.pipe_topo.specs.Reports.{report_of};
 ghost use Rattle.pipe_topo.specs.Sets.{has};
-ghost use Rattle.pipe_base.specs.Reported.{is_reported, unreported};
+ghost use Rattle.pipe_graph.specs.Reported.{is_reported, unreported};
 
 use pipe_base::{LinkId, NoMemory};
 use pipe_topo::{LinkSet, Reports, Topology};

@@ -2,8 +2,8 @@
 ghost use Rattle.std.specs.Prelude.{◌≡◌, length, IfOk};
 ghost use Rattle.pipe_topo.specs.Reports.{report_of};
 ghost use Rattle.pipe_topo.specs.Sets.{has};
-ghost use Rattle.pipe_base.specs.Doomed.{doomed, is_left};
-ghost use Rattle.pipe_base.specs.Reported.{unreported};
+ghost use Rattle.pipe_graph.specs.Doomed.{doomed, is_left};
+ghost use Rattle.pipe_graph.specs.Reported.{unreported};
 
 use crate::first::next_to_go;
 use crate::reach::Reach;

@@ -2,7 +2,7 @@
 ghost use Rattle.std.specs.Prelude.{◌≡◌, ℕ, ◌<◌, length, IfOk};
 ghost use Rattle.pipe_topo.specs.Reports.{report_of};
 ghost use Rattle.pipe_topo.specs.Sets.{has};
-ghost use Rattle.pipe_base.specs.FailureTime.{failure_time, fed_report, later};
+ghost use Rattle.pipe_graph.specs.FailureTime.{failure_time, fed_report, later};
 
 use pipe_base::{HostId, LinkId, NoMemory, Ts};
 use pipe_topo::{LinkSet, Reports, Topology};

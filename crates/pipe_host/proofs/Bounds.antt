@@ -11,8 +11,7 @@ use Rattle.pipe_base.specs.declared.name.HostId.{HostId}
 use Rattle.pipe_base.specs.declared.name.Ts.{Ts}
 use Rattle.pipe_base.specs.declared.packet.Plane.TheVariants as plane
 use Rattle.pipe_base.specs.Clock.{stamp_at}
-use Rattle.pipe_base.specs.Graph.{Graph}
-use Rattle.pipe_base.specs.Limits.{last_stamp}
+use Rattle.pipe_graph.specs.Graph.{Graph}
 use Rattle.pipe_base.specs.Messages.{AreBelow, Messages, below_barrier, from_barrier, logged_of}
 use Rattle.pipe_base.specs.Settled.{unsettled}
 use Rattle.pipe_base.proofs.MessageLaws.{logged-below}
@@ -40,22 +39,22 @@ below_end b s ms within =
 pub both_below_end : (xs ys : List (Service × Entry)) → AreBelow (2 ^ 64 - 1) xs → AreBelow (2 ^ 64 - 1) ys → AreBelow (2 ^ 64 - 1) (xs ++ ys)
 both_below_end xs ys below more = All-append (λ (e : Service × Entry). e.1.key.ts.0 < 2 ^ 64 - 1) xs ys below more
 
-short_by : (b : Bool) (now next : ℕ) → nat_le (stamp_at now next) last_stamp ≡ b → IfSome (where_ok (clock_outcome now next) (stamp_at now next)) (λ ts. ts.0 ≤ last_stamp)
-short_by true now next is = rw is (grind (arith, nat_tests, is))
-short_by false now next is = rw is tt
+short_by : (b : Bool) (top now next : ℕ) → nat_le (stamp_at now next) top ≡ b → IfSome (where_ok (clock_outcome top now next) (stamp_at now next)) (λ ts. ts.0 ≤ top)
+short_by true top now next is = rw is (grind (arith, nat_tests, is))
+short_by false top now next is = rw is tt
 
-short_where : (failed : Option HostId) (full : Bool) (now next : ℕ) → IfSome (where_ok (send_outcome failed full now next) (stamp_at now next)) (λ ts. ts.0 ≤ last_stamp)
-short_where (Some host) full now next = tt
-short_where None true now next = tt
-short_where None false now next = short_by (nat_le (stamp_at now next) last_stamp) now next refl
+short_where : (failed : Option HostId) (full : Bool) (top now next : ℕ) → IfSome (where_ok (send_outcome failed full top now next) (stamp_at now next)) (λ ts. ts.0 ≤ top)
+short_where (Some host) full top now next = tt
+short_where None true top now next = tt
+short_where None false top now next = short_by (nat_le (stamp_at now next) top) top now next refl
 
-stamps_within : (graph : Graph) (node : ℕ) (own : List Record) (event : Event) → IfSome (stamped graph node own event) (λ ts. ts.0 ≤ last_stamp)
-stamps_within graph node own (Send host service now dests) = short_where (first_failed (noted_hosts own) dests) (is_window_full service (unsettled (sender_calls graph node own))) now.0 (next own)
+stamps_within : (graph : Graph) (node : ℕ) (own : List Record) (event : Event) → IfSome (stamped graph node own event) (λ ts. ts.0 ≤ graph.top)
+stamps_within graph node own (Send host service now dests) = short_where (first_failed (noted_hosts own) dests) (is_window_full service (unsettled (sender_calls graph node own))) graph.top now.0 (next graph node own)
 stamps_within graph node own _ = tt
 
 -- a stamp is within the clock
-pub stamp_within : (graph : Graph) (node : ℕ) (own : List Record) (event : Event) (o : Option Ts) → o ≡ stamped graph node own event → IfSome o (λ ts. ts.0 ≤ last_stamp)
-stamp_within graph node own event o is = subst (λ (s : Option Ts). IfSome s (λ ts. ts.0 ≤ last_stamp)) (sym is) (stamps_within graph node own event)
+pub stamp_within : (graph : Graph) (node : ℕ) (own : List Record) (event : Event) (o : Option Ts) → o ≡ stamped graph node own event → IfSome o (λ ts. ts.0 ≤ graph.top)
+stamp_within graph node own event o is = subst (λ (s : Option Ts). IfSome s (λ ts. ts.0 ≤ graph.top)) (sym is) (stamps_within graph node own event)
 
 -- all that a record logs, where the barriers after it are within the type
 pub logged_below_end : (graph : Graph) (node : ℕ) (own : List Record) (r : Record) → barrier_at plane.BestEffort graph node (r ∷ own) ≤ 2 ^ 64 - 1

@@ -16,7 +16,7 @@ use Rattle.pipe_base.specs.declared.step.Fate.TheVariants.{Held, Repeat, Late, D
 use Rattle.pipe_base.specs.Failed.{is_from, is_void, time_of, without_void}
 use Rattle.pipe_base.specs.Fate.{fate_from, fate_of}
 use Rattle.pipe_base.specs.Fate as fates
-use Rattle.pipe_base.specs.Graph.{Graph, is_host}
+use Rattle.pipe_graph.specs.Graph.{Graph, is_host}
 use Rattle.pipe_base.specs.Messages.{IsInOrder, Messages, from_barrier, has_key, without_keys}
 use Rattle.pipe_base.proofs.KeyOrder.{order_filter, order_with}
 use Rattle.pipe_base.proofs.MessageLaws.{from_with, has_from}
@@ -27,7 +27,7 @@ use Rattle.pipe_host.specs.declared.buffers.Buffers.{Buffers}
 use Rattle.pipe_reorder.specs.Buffer.{Buffer, has_tombstone}
 use Rattle.pipe_reorder.proofs.VoidLaws.{has_passing, has_standing, passing-with, standing-with}
 use Rattle.pipe_host.specs.Buffers.{IsFresh, IsNew, all_burying, buffer_of, fate_among, fate_by, joined}
-use Rattle.pipe_host.specs.Host.{kept}
+use Rattle.pipe_host.specs.Host.{still_held}
 
 -- a test of keys that a buffer answers is the one of the rules, for keys that the barrier has not passed
 abbrev pub Agree : ℕ → (among was : Key → Bool) → Type 0
@@ -35,7 +35,7 @@ Agree b among was = (k : Key) → b ≤ k.ts.0 → among k ≡ was k
 
 -- a message that is neither late nor void nor taken back has the fate that all messages ever held give it
 among_kept : (t : Bool) (b : ℕ) (failed : List Announced) (was : Key → Bool) (ms : Messages) (k : Key) → b ≤ k.ts.0 → is_void failed k ≡ false → was k ≡ t
-    → fates.fate_among t (kept b failed was ms) k ≡ fates.fate_among t ms k
+    → fates.fate_among t (still_held b failed was ms) k ≡ fates.fate_among t ms k
 among_kept true b failed was ms k low stands is = refl
 among_kept false b failed was ms k low stands is =
     ap (λ (h : Bool). if h then Repeat else Held)
@@ -44,26 +44,26 @@ among_kept false b failed was ms k low stands is =
     ∙ has_standing failed k ms stands)
 
 discard_kept : (void : Bool) (time : Ts) (b : ℕ) (failed : List Announced) (was : Key → Bool) (ms : Messages) (k : Key) → b ≤ k.ts.0 → is_void failed k ≡ void
-    → (if void then Discarded time else fates.fate_among (was k) (kept b failed was ms) k) ≡ (if void then Discarded time else fates.fate_among (was k) ms k)
+    → (if void then Discarded time else fates.fate_among (was k) (still_held b failed was ms) k) ≡ (if void then Discarded time else fates.fate_among (was k) ms k)
 discard_kept true time b failed was ms k low is = refl
 discard_kept false time b failed was ms k low is = among_kept (was k) b failed was ms k low is refl
 
 void_kept : (t : Option Ts) (b : ℕ) (failed : List Announced) (was : Key → Bool) (ms : Messages) (k : Key) → b ≤ k.ts.0 → time_of k.src.0 failed ≡ t
-    → fate_from t (was k) (kept b failed was ms) k ≡ fate_from t (was k) ms k
+    → fate_from t (was k) (still_held b failed was ms) k ≡ fate_from t (was k) ms k
 void_kept None b failed was ms k low is = among_kept (was k) b failed was ms k low (ap (λ (o : Option Ts). is_from o k.ts) is) refl
 void_kept (Some time) b failed was ms k low is =
     discard_kept (nat_le time.0 k.ts.0) time b failed was ms k low (ap (λ (o : Option Ts). is_from o k.ts) is)
 
 late_kept : (late : Bool) (b : ℕ) (failed : List Announced) (among was : Key → Bool) (ms : Messages) (k : Key) → Agree b among was → nat_lt k.ts.0 b ≡ late
-    → (if late then Late (record { 0 = b }) else fate_from (time_of k.src.0 failed) (among k) (kept b failed was ms) k)
+    → (if late then Late (record { 0 = b }) else fate_from (time_of k.src.0 failed) (among k) (still_held b failed was ms) k)
     ≡ (if late then Late (record { 0 = b }) else fate_from (time_of k.src.0 failed) (was k) ms k)
 late_kept true b failed among was ms k agree is = refl
 late_kept false b failed among was ms k agree is =
     let low : b ≤ k.ts.0 = ltb-false k.ts.0 b is in
-    ap (λ (t : Bool). fate_from (time_of k.src.0 failed) t (kept b failed was ms) k) (agree k low) ∙ void_kept (time_of k.src.0 failed) b failed was ms k low refl
+    ap (λ (t : Bool). fate_from (time_of k.src.0 failed) t (still_held b failed was ms) k) (agree k low) ∙ void_kept (time_of k.src.0 failed) b failed was ms k low refl
 
 pub fate_kept : (b : ℕ) (failed : List Announced) (among was : Key → Bool) (ms : Messages) (m : Option Packet) → Agree b among was
-    → fate_for b failed among (kept b failed was ms) m ≡ fate_for b failed was ms m
+    → fate_for b failed among (still_held b failed was ms) m ≡ fate_for b failed was ms m
 fate_kept b failed among was ms None agree = refl
 fate_kept b failed among was ms (Some p) agree = ap (λ (f : Fate). Some f) (late_kept (nat_lt p.ts.0 b) b failed among was ms (key_of p) agree refl)
 
@@ -106,7 +106,7 @@ held_from : (b : ℕ) (failed : List Announced) (was : Key → Bool) (ms : Messa
 held_from b failed was ms k held = late_by (nat_lt k.ts.0 b) b failed was ms k refl held
 
 keeps_by : (f : Fate) (b : ℕ) (failed : List Announced) (was : Key → Bool) (ms : Messages) (p : Packet) → IsInOrder ms → (f ≡ Held → IsHeld b failed was ms (key_of p))
-    → with_held (Some f) (Some p) (kept b failed was ms) ≡ kept b failed was (with_held (Some f) (Some p) ms)
+    → with_held (Some f) (Some p) (still_held b failed was ms) ≡ still_held b failed was (with_held (Some f) (Some p) ms)
 keeps_by Held b failed was ms p order is =
     let held = is refl in
     sym (ap (λ (xs : Messages). from_barrier b (without_keys was xs)) (standing-with failed (key_of p) p.body ms order held.stands)
@@ -120,7 +120,7 @@ keeps_by Recalled b failed was ms p order is = refl
 
 -- what is kept with a message is kept of all that was ever held with it
 pub held_kept : (b : ℕ) (failed : List Announced) (was : Key → Bool) (ms : Messages) (m : Option Packet) → IsInOrder ms
-    → with_held (fate_for b failed was ms m) m (kept b failed was ms) ≡ kept b failed was (with_held (fate_for b failed was ms m) m ms)
+    → with_held (fate_for b failed was ms m) m (still_held b failed was ms) ≡ still_held b failed was (with_held (fate_for b failed was ms m) m ms)
 held_kept b failed was ms None order = refl
 held_kept b failed was ms (Some p) order =
     keeps_by (fate_of b (time_of p.src.0 failed) (was (key_of p)) ms (key_of p)) b failed was ms p order (held_from b failed was ms (key_of p))
@@ -263,10 +263,10 @@ fresh_burying got f p h new Reliable = new Reliable
 
 -- the messages that are kept, with what joins them, are kept of all that were ever held with it
 pub joined_kept : (f : Option Fate) (o m : Option Packet) (b : ℕ) (failed : List Announced) (among was : Key → Bool) (ms : Messages) → IsInOrder ms → Agree b among was
-    → with_held f o (kept b failed was ms) ≡ with_held (fate_for b failed among (kept b failed was ms) m) m (kept b failed was ms)
-    → with_held f o (kept b failed was ms) ≡ kept b failed was (with_held (fate_for b failed was ms m) m ms)
+    → with_held f o (still_held b failed was ms) ≡ with_held (fate_for b failed among (still_held b failed was ms) m) m (still_held b failed was ms)
+    → with_held f o (still_held b failed was ms) ≡ still_held b failed was (with_held (fate_for b failed was ms m) m ms)
 joined_kept f o m b failed among was ms order agree is =
-    is ∙ ap (λ (g : Option Fate). with_held g m (kept b failed was ms)) (fate_kept b failed among was ms m agree) ∙ held_kept b failed was ms m order
+    is ∙ ap (λ (g : Option Fate). with_held g m (still_held b failed was ms)) (fate_kept b failed among was ms m agree) ∙ held_kept b failed was ms m order
 
 -- a packet that carries no message of the service leaves its buffer alone
 pub not_joined : (service : Service) (f : Option Fate) (p : Packet) (b : Buffer) → carries service p.kind ≡ false → joined service f p b ≡ b

@@ -24,14 +24,15 @@ use Rattle.pipe_base.specs.declared.step.Step.{Step}
 use Rattle.pipe_base.specs.Clock.{next_after}
 use Rattle.pipe_base.specs.Failed.{is_announced}
 use Rattle.pipe_base.specs.Fate.{is_holding}
-use Rattle.pipe_base.specs.Graph.{Graph, ins_of, is_host}
-use Rattle.pipe_base.specs.Moment.{Moment, Received, is_up, with_received, with_downed, with_dropped}
+use Rattle.pipe_graph.specs.Graph.{Graph, ins_of, is_host}
+use Rattle.pipe_base.specs.Moment.{Moment, Received, is_up, with_received, with_downed}
+use Rattle.pipe_base.specs.Entries.{with_entries}
 use Rattle.pipe_base.specs.Packets.{Fields, ack_to, beacon, recall_ack_to}
 use Rattle.pipe_base.specs.Promise.{promise_of}
 use Rattle.pipe_base.specs.Resends.{resends, resends_for}
 use Rattle.pipe_base.specs.Scattering.{Scattering, SenderCall}
 use Rattle.pipe_base.specs.Settled.{is_recalling, unsettled}
-use Rattle.pipe_base.specs.ShortestRoute.{route}
+use Rattle.pipe_graph.specs.ShortestRoute.{route}
 use Rattle.pipe_base.specs.Silence.{silent_marks}
 use Rattle.pipe_base.specs.Step.{quiet_step}
 use Rattle.pipe_base.specs.Ways.{lost, routed, with_beacons, with_ways}
@@ -60,7 +61,8 @@ use Rattle.pipe_host.specs.declared.host.Host.{Host}
 use Rattle.pipe_host.specs.declared.buffers.Buffers.{Buffers}
 use Rattle.pipe_host.specs.Buffers.{all_noting, fate_among, last_of, logged_by}
 use Rattle.pipe_host.specs.Host.{HasReceiver, Stands, StandsTaking, StandsWith, Works, buffers_for, buffers_with}
-use Rattle.pipe_host.specs.Steps.{IsObeying, IsReceipt, answers_as, answers_for, beat, fields_after, fields_ticked, response, taken, ticked, told}
+use Rattle.pipe_host.specs.Steps.{IsObeying, IsReceipt, answers_as, answers_for, beat, fields_after, fields_ticked, response}
+use Rattle.pipe_model.specs.Records.{told, taken, ticked}
 use Rattle.pipe_host.proofs.HeldLaws.{Brought, brought}
 use Rattle.pipe_host.proofs.RecordLaws.{fate_with, logs, still_buffers, still_fate, still_logged}
 
@@ -85,10 +87,10 @@ chosen false x y is = cc
 
 -- they are its stamp, or its next timestamp, and its promise
 pub fields_of_host : (graph : Graph) (node : ℕ) (own : List Record) (r : Record) (be n : ℕ) (calls : List SenderCall) → is_host graph node ≡ true
-    → host_be r.step.stamped (next (r ∷ own)) ≡ be → next (r ∷ own) ≡ n → sender_calls graph node (r ∷ own) ≡ calls
+    → host_be r.step.stamped (next graph node (r ∷ own)) ≡ be → next graph node (r ∷ own) ≡ n → sender_calls graph node (r ∷ own) ≡ calls
     → fields graph node own r ≡ record { be = be; commit = promise_of n calls }
 fields_of_host graph node own r be n calls host be_is next_is calls_are =
-    chosen {A = Fields} (is_host graph node) (record { be = host_be r.step.stamped (next (r ∷ own)); commit = promise graph node (r ∷ own) }) _ host
+    chosen {A = Fields} (is_host graph node) (record { be = host_be r.step.stamped (next graph node (r ∷ own)); commit = promise graph node (r ∷ own) }) _ host
     ∙ ap {B = Fields} (λ (b : ℕ). record { be = b; commit = promise graph node (r ∷ own) }) be_is
     ∙ ap {B = Fields} (λ (m : ℕ). record { be = be; commit = promise_of m (sender_calls graph node (r ∷ own)) }) next_is
     ∙ ap {B = Fields} (λ (cs : List SenderCall). record { be = be; commit = promise_of n cs }) calls_are
@@ -98,9 +100,9 @@ fields_of_host graph node own r be n calls host be_is next_is calls_are =
 owed_at_host : (graph : Graph) (node : ℕ) (own : List Record) (r : Record) (f : Fields) → is_host graph node ≡ true
     → owed_by_take graph node f own r ≡ owed_by_host node f r.step.fate (gets graph node own r)
 owed_at_host graph node own r f host =
-    chosen {A = List Packet} (is_host graph node) (owed_by_host node f r.step.fate (gets graph node own r)) (owed_by_half f (received own r)) host
+    chosen {A = List Packet} (is_host graph node) (owed_by_host node f r.step.fate (gets graph node own r)) (owed_by_half f (received graph node own r)) host
 
-owed_none : (graph : Graph) (node : ℕ) (own : List Record) (r : Record) (f : Fields) → is_host graph node ≡ true → received own r ≡ None → owed_by_take graph node f own r ≡ []
+owed_none : (graph : Graph) (node : ℕ) (own : List Record) (r : Record) (f : Fields) → is_host graph node ≡ true → received graph node own r ≡ None → owed_by_take graph node f own r ≡ []
 owed_none graph node own r f host none =
     owed_at_host graph node own r f host ∙ ap (λ (o : Option (ℕ × Packet)). owed_by_host node f r.step.fate (gets_of graph node o)) none
 
@@ -169,14 +171,14 @@ notes_none graph node host = sym (chosen {A = List Announced} (is_host graph nod
 
 -- a packet on a link that is not up
 pub ignores : (graph : Graph) (node : ℕ) (own : List Record) (link : LinkId) (p : Packet) (place : ℕ) (keep : Bool) → is_host graph node ≡ true
-    → is_up (moments_of own) link.0 ≡ false → IsNodeStep graph node own (taken link p place keep (quiet_step Ignored))
+    → is_up (moments_of graph node own) link.0 ≡ false → IsNodeStep graph node own (taken link p place keep (quiet_step Ignored))
 ignores graph node own link p place keep host down =
     let r : Record = taken link p place keep (quiet_step Ignored) in
-    let none : received own r ≡ None = taken_ignored (moments_of own) link p place keep down in
-    let same : moments_of (r ∷ own) ≡ moments_of own = ap (λ (o : Option (ℕ × Packet)). with_received true o (moments_of own)) none in
+    let none : received graph node own r ≡ None = taken_ignored (moments_of graph node own) link p place keep down in
+    let same : moments_of graph node (r ∷ own) ≡ moments_of graph node own = ap (λ (o : Option (ℕ × Packet)). with_received true o (moments_of graph node own)) none in
     let owes : owed_by_take graph node (fields graph node own r) own r ≡ [] = owed_none graph node own r (fields graph node own r) host none in
     record {
-      outcome_is = ignored_where_down (is_up (moments_of own) link.0) down;
+      outcome_is = ignored_where_down (is_up (moments_of graph node own) link.0) down;
       downed_is = refl;
       dropped_is = refl;
       noted_is = notes_none graph node host;
@@ -195,7 +197,8 @@ ignores graph node own link p place keep host down =
 pub record IsReady (graph : Graph) (node : ℕ) (own : List Record) (r : Record) (k : Host) : Type 0 where
   pub host : is_host graph node ≡ true
   pub links_are : links.Stands graph node own k.links
-  pub next_is : k.clock.next.0 ≡ next own
+  pub next_is : k.clock.next.0 ≡ next graph node own
+  pub top_is : k.clock.top.0 ≡ graph.top
   pub held_are : k.held ≡ buffers_with graph node own r
   pub sender_is : sending.Stands (sender_calls graph node own) k.sender
 
@@ -216,7 +219,7 @@ links_ready graph node own r k stands none =
     }
 
 -- a record that changes nothing but what follows from it
-pub still_ready : (graph : Graph) (node : ℕ) (own : List Record) (r : Record) (k : Host) → Stands graph node own k → StandsTaking r.event graph node own k.links → received own r ≡ None → r.step.noted ≡ [] → r.step.dropped ≡ []
+pub still_ready : (graph : Graph) (node : ℕ) (own : List Record) (r : Record) (k : Host) → Stands graph node own k → StandsTaking r.event graph node own k.links → received graph node own r ≡ None → r.step.noted ≡ [] → r.step.dropped ≡ []
     → sending.Stands (with_begun r.event r.step.stamped (sender_calls graph node own)) k.sender → HasReceiver r.event → StandsWith graph node own r k
 still_ready graph node own r k stands taking none no_news no_drops sender_is some =
     record {
@@ -224,6 +227,7 @@ still_ready graph node own r k stands taking none no_news no_drops sender_is som
       links_are = links_ready graph node own r k.links stands.links_are no_drops;
       taking = taking;
       next_is = stands.next_is;
+      top_is = stands.top_is;
       held_are = stands.held_are ∙ sym (still_buffers graph node own r none no_news);
       sender_is = sender_is;
       receiver = some;
@@ -235,7 +239,7 @@ drops_stay own r none = ap (λ (ls : List LinkId). known_drops own ++ ls) none �
 
 -- a packet that is received
 pub receives : (graph : Graph) (node : ℕ) (own : List Record) (link : LinkId) (p : Packet) (place : ℕ) (keep : Bool) (all : Option Fate) (k : Host) (step : Step)
-    → IsReady graph node own (taken link p place keep step) k → is_up (moments_of own) link.0 ≡ true
+    → IsReady graph node own (taken link p place keep step) k → is_up (moments_of graph node own) link.0 ≡ true
     → all ≡ fate_among (buffers_for graph node own) (gets_of graph node (Some (link.0, p)))
     → IsReceipt k link p all step → IsNodeStep graph node own (taken link p place keep step)
 receives graph node own link p place keep all k step ready up fate_is receipt =
@@ -248,11 +252,11 @@ receives graph node own link p place keep all k step ready up fate_is receipt =
     let q : ℕ × Packet = (link.0, p) in
     let m : Option Packet = gets_of graph node (Some q) in
     let calls : List SenderCall = sender_calls graph node own in
-    let got : received own r ≡ Some q = taken_received (moments_of own) link p place keep up in
+    let got : received graph node own r ≡ Some q = taken_received (moments_of graph node own) link p place keep up in
     let gets_is : gets graph node own r ≡ m = ap (gets_of graph node) got in
-    let moments_are : moments_of (r ∷ own) ≡ Received link.0 p.be.0 p.commit.0 ∷ moments_of own =
-    ap (λ (o : Option (ℕ × Packet)). with_received true o (moments_of own)) got in
-    let are : AreBarriers (ins_of graph node) (moments_of (r ∷ own)) b =
+    let moments_are : moments_of graph node (r ∷ own) ≡ Received link.0 p.be.0 p.commit.0 ∷ moments_of graph node own =
+    ap (λ (o : Option (ℕ × Packet)). with_received true o (moments_of graph node own)) got in
+    let are : AreBarriers (ins_of graph node) (moments_of graph node (r ∷ own)) b =
     subst (λ (ms : List Moment). AreBarriers (ins_of graph node) ms b) (sym moments_are) (receipt.barriers_are graph node own ready.links_are) in
     let drops_now : known_drops (r ∷ own) ≡ known_drops own = drops_stay own r refl in
     let mine : m ≡ got_by p.kind (p.dst.0 == node) p = gets_mine graph node link.0 p ready.host in
@@ -260,7 +264,7 @@ receives graph node own link p place keep all k step ready up fate_is receipt =
     λ other. fate_is ∙ ap (fate_among (buffers_for graph node own)) (mine ∙ not_got (p.dst.0 == node) p.kind p other) in
     let fields_are : asks p.kind ≡ true → fields graph node own r ≡ f =
     λ asked.
-    let next_is : next (r ∷ own) ≡ f.be = omega (arith, ready.next_is) in
+    let next_is : next graph node (r ∷ own) ≡ f.be = omega (arith, ready.next_is) in
     fields_of_host graph node own r f.be f.be calls ready.host next_is next_is
     (ap (λ (o : Option Packet). with_answer o calls) gets_is ∙ answers_none p m calls (brought graph node link.0 p) (no_answer p.kind asked))
     ∙ ap {B = Fields} (λ (n : ℕ). record { be = f.be; commit = n }) (sym (promise_first f.be calls k.sender ready.sender_is)) in
@@ -271,7 +275,7 @@ receives graph node own link p place keep all k step ready up fate_is receipt =
     let step_is : step ≡ s = receipt.step_is graph node own ready.links_are in
     subst (λ (x : Step). IsNodeStep graph node own (taken link p place keep x)) (sym step_is)
     (record {
-      outcome_is = ok_where_up (is_up (moments_of own) link.0) up;
+      outcome_is = ok_where_up (is_up (moments_of graph node own) link.0) up;
       downed_is = refl;
       dropped_is = refl;
       noted_is = notes_none graph node ready.host;
@@ -300,10 +304,10 @@ done_of graph node calls noted =
 
 -- a tick
 pub ticks : (graph : Graph) (node : NodeId) (own : List Record) (now : Ts) (marks : List (LinkId × Ts)) (tells : List Addressed) (b : Barriers) (n : ℕ) (k : Host) (step : Step)
-    → Stands graph node.0 own k → marks ≡ silent_marks graph.patience (ins_of graph node.0) (moments_of own) (quiet_calls own) now.0
-    → tells ≡ (downs (ins_of graph node.0) (with_downed marks (moments_of own)) ++ done_told graph node.0 own) ++ gone_told node.0 own
-    → AreBarriers (ins_of graph node.0) (with_downed marks (moments_of own)) b
-    → n ≡ next_after (next own) now.0 None (logged_by b k.held)
+    → Stands graph node.0 own k → marks ≡ silent_marks graph.patience (ins_of graph node.0) (moments_of graph node.0 own) (quiet_calls graph node.0 own) now.0
+    → tells ≡ (downs (ins_of graph node.0) (with_downed marks (moments_of graph node.0 own)) ++ done_told graph node.0 own) ++ gone_told node.0 own
+    → AreBarriers (ins_of graph node.0) (with_downed marks (moments_of graph node.0 own)) b
+    → n ≡ next_after (next graph node.0 own) now.0 None (logged_by b k.held)
     → (f : Fields) → f ≡ record { be = n; commit = promise_of n (sender_calls graph node.0 own) }
     → step ≡ with_beacons (outs_left graph node.0 (known_drops own)) f
     (with_ways (route graph (known_drops own) node.0) (resends (sender_calls graph node.0 own) (record { 0 = node.0 }) f) (record (quiet_step Ok) { downed = marks; control = tells; logged = logged_by b k.held }))
@@ -363,15 +367,15 @@ none_again graph node own f settled =
 
 -- A tick that is worked out is what the host owes, and the host is ready to follow it.
 pub ticked_works : (graph : Graph) (node : NodeId) (own : List Record) (now : Ts) (marks : List (LinkId × Ts)) (tells : List Addressed) (b : Barriers) (k : Host) (step : Step)
-    → Stands graph node.0 own k → marks ≡ silent_marks graph.patience (ins_of graph node.0) (moments_of own) (quiet_calls own) now.0
-    → tells ≡ (downs (ins_of graph node.0) (with_downed marks (moments_of own)) ++ done_told graph node.0 own) ++ gone_told node.0 own
-    → AreBarriers (ins_of graph node.0) (with_downed marks (moments_of own)) b
+    → Stands graph node.0 own k → marks ≡ silent_marks graph.patience (ins_of graph node.0) (moments_of graph node.0 own) (quiet_calls graph node.0 own) now.0
+    → tells ≡ (downs (ins_of graph node.0) (with_downed marks (moments_of graph node.0 own)) ++ done_told graph node.0 own) ++ gone_told node.0 own
+    → AreBarriers (ins_of graph node.0) (with_downed marks (moments_of graph node.0 own)) b
     → step ≡ beat graph node.0 own (fields_ticked graph node.0 own now (logged_by b k.held)) marks tells (logged_by b k.held)
     → Works graph node.0 own (ticked node now step) k
 ticked_works graph node own now marks tells b k step stands marks_are tells_are are step_is =
     let f : Fields = fields_ticked graph node.0 own now (logged_by b k.held) in
     record {
-      rules = ticks graph node own now marks tells b (next_after (next own) now.0 None (logged_by b k.held)) k step stands marks_are tells_are are refl f (λ i. f) step_is;
+      rules = ticks graph node own now marks tells b (next_after (next graph node.0 own) now.0 None (logged_by b k.held)) k step stands marks_are tells_are are refl f (λ i. f) step_is;
       stands = still_ready graph node.0 own (ticked node now step) k stands tt refl (ap (λ (s : Step). s.noted) step_is) (ap (λ (s : Step). s.dropped) step_is) stands.sender_is tt;
     }
 
@@ -403,8 +407,8 @@ obeys graph node own control place keep drops count k step ready drops_are noted
     let is : step ≡ record (quiet_step Ok) { downed = obeying.marks; dropped = drops; noted = last_of count k.held.reliable.failed; logged = logged_by b k.held } = obeying.step_is in
     let downed : step.downed ≡ obeying.marks = ap (λ (s : Step). s.downed) is in
     let dropped : step.dropped ≡ drops = ap (λ (s : Step). s.dropped) is in
-    let moments_are : moments_of (r ∷ own) ≡ with_dropped drops (with_downed obeying.marks (moments_of own)) = rw (dropped, downed) refl in
-    let are : AreBarriers (ins_of graph node.0) (moments_of (r ∷ own)) b =
+    let moments_are : moments_of graph node.0 (r ∷ own) ≡ with_entries (ins_of graph node.0) drops (with_downed obeying.marks (moments_of graph node.0 own)) = rw (dropped, downed) refl in
+    let are : AreBarriers (ins_of graph node.0) (moments_of graph node.0 (r ∷ own)) b =
     subst (λ (ms : List Moment). AreBarriers (ins_of graph node.0) ms b) (sym moments_are) (obeying.barriers_are graph node.0 own ready.links_are) in
     record {
       outcome_is = ap (λ (s : Step). s.outcome) is;

@@ -14,7 +14,7 @@ use Rattle.pipe_base.specs.declared.packet.Plane.TheVariants as plane
 use Rattle.pipe_base.specs.declared.step.Fate.{Fate}
 use Rattle.pipe_base.specs.Barrier.{barrier}
 use Rattle.pipe_base.specs.Failed.{is_void, without_void}
-use Rattle.pipe_base.specs.Graph.{Graph, ins_of, is_host}
+use Rattle.pipe_graph.specs.Graph.{Graph, ins_of, is_host}
 use Rattle.pipe_base.specs.Messages.{Messages, from_barrier, logged_of, below_barrier, without_keys}
 use Rattle.pipe_base.specs.Moment.{Moment}
 use Rattle.pipe_base.proofs.MessageLaws.{from_later, none_between}
@@ -37,7 +37,7 @@ use Rattle.pipe_reorder.specs.Buffer.{Buffer, has_tombstone, keys_from, left_by,
 use Rattle.pipe_reorder.proofs.VoidLaws.{Covers, covers_more, filter_swap, without_more}
 use Rattle.pipe_host.specs.declared.buffers.Buffers.{Buffers}
 use Rattle.pipe_host.specs.Buffers.{IsFresh, all_burying, all_joined, all_left, all_noting, burying, fate_among, fate_by, logged_by, newest_after, stones_with, where_mine}
-use Rattle.pipe_host.specs.Host.{buffer_for, buffer_with, buffers_for, buffers_with, kept, newest_during, stones, stones_during, stones_for}
+use Rattle.pipe_host.specs.Host.{buffer_for, buffer_with, buffers_for, buffers_with, still_held, newest_during, stones, stones_during, stones_for}
 use Rattle.pipe_host.proofs.HeldLaws.{Agree, brought, fate_kept, fresh, held_in_order, joined_kept, joins}
 use Rattle.pipe_host.proofs.StoneLaws.{agrees, agrees_during, newest_goes, recalled_stays, without_stones}
 
@@ -50,16 +50,16 @@ without_buried h = record { best = h.best; reliable = with_no_buried h.reliable 
 
 -- ---- a record in which nothing is received
 
-got_none : (service : Service) (graph : Graph) (node : ℕ) (own : List Record) (r : Record) → received own r ≡ None → got service graph node own r ≡ None
+got_none : (service : Service) (graph : Graph) (node : ℕ) (own : List Record) (r : Record) → received graph node own r ≡ None → got service graph node own r ≡ None
 got_none service graph node own r none = ap (λ (o : Option (ℕ × Packet)). message_of service (gets_of graph node o)) none
 
-pub still_fate : (graph : Graph) (node : ℕ) (own : List Record) (r : Record) → received own r ≡ None → None ≡ fate graph node own r
+pub still_fate : (graph : Graph) (node : ℕ) (own : List Record) (r : Record) → received graph node own r ≡ None → None ≡ fate graph node own r
 still_fate graph node own r none =
     let best : got BestEffort graph node own r ≡ None = got_none BestEffort graph node own r none in
     let reliable : got Reliable graph node own r ≡ None = got_none Reliable graph node own r none in rw (best, reliable) refl
 
-still_held : (service : Service) (graph : Graph) (node : ℕ) (own : List Record) (r : Record) → received own r ≡ None → held service graph node (r ∷ own) ≡ held service graph node own
-still_held service graph node own r none = let got : got service graph node own r ≡ None = got_none service graph node own r none in rw got refl
+holds_still : (service : Service) (graph : Graph) (node : ℕ) (own : List Record) (r : Record) → received graph node own r ≡ None → held service graph node (r ∷ own) ≡ held service graph node own
+holds_still service graph node own r none = let got : got service graph node own r ≡ None = got_none service graph node own r none in rw got refl
 
 pub still_failed : (service : Service) (own : List Record) (r : Record) → r.step.noted ≡ [] → failed_for service (r ∷ own) ≡ failed_for service own
 still_failed BestEffort own r none = refl
@@ -86,7 +86,7 @@ buffer_by service graph node own tombstones newest ms = record {
   failed = failed_for service own;
   tombstones = tombstones;
   newest = newest;
-  messages = kept (barrier_at (plane_of service) graph node own) (failed_for service own) (recalled_for service graph node own) ms;
+  messages = still_held (barrier_at (plane_of service) graph node own) (failed_for service own) (recalled_for service graph node own) ms;
 }
 
 -- the tombstones by what a record brings
@@ -98,35 +98,35 @@ abbrev newest_by : Service → Graph → ℕ → List Record → Option Packet �
 newest_by BestEffort graph node own m = None
 newest_by Reliable graph node own m = newest_after (barrier_at plane.Commit graph node own) m (stones graph node own)
 
-still_one : (service : Service) (graph : Graph) (node : ℕ) (own : List Record) (r : Record) → received own r ≡ None → buffer_joined service graph node own r ≡ buffer_for service graph node own
+still_one : (service : Service) (graph : Graph) (node : ℕ) (own : List Record) (r : Record) → received graph node own r ≡ None → buffer_joined service graph node own r ≡ buffer_for service graph node own
 still_one BestEffort graph node own r none =
-    ap (buffer_by BestEffort graph node own [] None) (still_held BestEffort graph node own r none)
+    ap (buffer_by BestEffort graph node own [] None) (holds_still BestEffort graph node own r none)
 still_one Reliable graph node own r none =
     ap {B = Buffer} (λ (o : Option (ℕ × Packet)). buffer_by Reliable graph node own (stones_by Reliable graph node own (gets_of graph node o)) (newest_by Reliable graph node own (gets_of graph node o)) (held Reliable graph node (r ∷ own))) none
-    ∙ ap (buffer_by Reliable graph node own (stones graph node own) None) (still_held Reliable graph node own r none)
+    ∙ ap (buffer_by Reliable graph node own (stones graph node own) None) (holds_still Reliable graph node own r none)
 
-pub still_joined : (graph : Graph) (node : ℕ) (own : List Record) (r : Record) → received own r ≡ None → buffers_joined graph node own r ≡ buffers_for graph node own
+pub still_joined : (graph : Graph) (node : ℕ) (own : List Record) (r : Record) → received graph node own r ≡ None → buffers_joined graph node own r ≡ buffers_for graph node own
 still_joined graph node own r none =
     buffers_are (buffers_joined graph node own r) (buffer_for BestEffort graph node own) (buffer_for Reliable graph node own) (still_one BestEffort graph node own r none) (still_one Reliable graph node own r none)
 
 -- what is held stays
-pub still_buffers : (graph : Graph) (node : ℕ) (own : List Record) (r : Record) → received own r ≡ None → r.step.noted ≡ []
+pub still_buffers : (graph : Graph) (node : ℕ) (own : List Record) (r : Record) → received graph node own r ≡ None → r.step.noted ≡ []
     → buffers_with graph node own r ≡ buffers_for graph node own
 still_buffers graph node own r none no_news = none_noted graph node own r no_news ∙ still_joined graph node own r none
 
 -- the hosts that a record notes are noted besides
-pub still_noting : (graph : Graph) (node : ℕ) (own : List Record) (r : Record) → received own r ≡ None
+pub still_noting : (graph : Graph) (node : ℕ) (own : List Record) (r : Record) → received graph node own r ≡ None
     → all_noting r.step.noted (buffers_for graph node own) ≡ buffers_with graph node own r
 still_noting graph node own r none = ap (all_noting r.step.noted) (sym (still_joined graph node own r none))
 
-passes_none : (service : Service) (graph : Graph) (node : ℕ) (own : List Record) (r : Record) → moments_of (r ∷ own) ≡ moments_of own → logged_of service (passed_in service graph node own r) ≡ []
+passes_none : (service : Service) (graph : Graph) (node : ℕ) (own : List Record) (r : Record) → moments_of graph node (r ∷ own) ≡ moments_of graph node own → logged_of service (passed_in service graph node own r) ≡ []
 passes_none service graph node own r same =
     let b : ℕ = barrier_at (plane_of service) graph node own in
     ap (λ (ms : List Moment). logged_of service (below_barrier (barrier (plane_of service) (ins_of graph node) ms) (from_barrier b (standing service graph node (r ∷ own))))) same
     ∙ ap (logged_of service) (none_between b (standing service graph node (r ∷ own)))
 
 -- where the barriers stay nothing is logged
-pub still_logged : (graph : Graph) (node : ℕ) (own : List Record) (r : Record) → moments_of (r ∷ own) ≡ moments_of own → [] ≡ logged graph node own r
+pub still_logged : (graph : Graph) (node : ℕ) (own : List Record) (r : Record) → moments_of graph node (r ∷ own) ≡ moments_of graph node own → [] ≡ logged graph node own r
 still_logged graph node own r same =
     sym (ap (λ (es : List (Service × Entry)). es ++ logged_of Reliable (passed_in Reliable graph node own r)) (passes_none BestEffort graph node own r same)
     ∙ passes_none Reliable graph node own r same)
@@ -134,7 +134,7 @@ still_logged graph node own r same =
 -- ---- a record in which a packet is received
 
 -- the fate of what a packet brings
-pub fate_with : (graph : Graph) (node : ℕ) (own : List Record) (r : Record) (q : ℕ × Packet) → received own r ≡ Some q
+pub fate_with : (graph : Graph) (node : ℕ) (own : List Record) (r : Record) (q : ℕ × Packet) → received graph node own r ≡ Some q
     → fate_among (buffers_for graph node own) (gets_of graph node (Some q)) ≡ fate graph node own r
 fate_with graph node own r q is =
     let among : Service → Option Packet → Option Fate =
@@ -147,7 +147,7 @@ fate_with graph node own r q is =
     ∙ ap (λ (o : Option (ℕ × Packet)). option_or (among BestEffort (message_of BestEffort (gets_of graph node o))) (among Reliable (message_of Reliable (gets_of graph node o)))) (sym is)
 
 -- the messages that are kept with that of a packet
-messages_with : (service : Service) (graph : Graph) (node : ℕ) (own : List Record) (r : Record) (link : ℕ) (p : Packet) → received own r ≡ Some (link, p)
+messages_with : (service : Service) (graph : Graph) (node : ℕ) (own : List Record) (r : Record) (link : ℕ) (p : Packet) → received graph node own r ≡ Some (link, p)
     → (f : Option Fate)
     → with_held f (message_of service (Some p)) (buffer_for service graph node own).messages
     ≡ with_held (fate_by (buffer_for service graph node own) (message_of service (gets_of graph node (Some (link, p)))))
@@ -160,7 +160,7 @@ messages_with service graph node own r link p is f joins_are =
     let ms : Messages = held service graph node own in
     joined_kept f (message_of service (Some p)) (message_of service (gets_of graph node (Some (link, p)))) b failed (has_tombstone (stones_for service graph node own)) was ms
     (held_in_order service graph node own) (agrees service graph node own) joins_are
-    ∙ ap (λ (o : Option (ℕ × Packet)). kept b failed was (with_held (fate_for b failed was ms (message_of service (gets_of graph node o))) (message_of service (gets_of graph node o)) ms)) (sym is)
+    ∙ ap (λ (o : Option (ℕ × Packet)). still_held b failed was (with_held (fate_for b failed was ms (message_of service (gets_of graph node o))) (message_of service (gets_of graph node o)) ms)) (sym is)
 
 -- the buffer with these messages, and the tombstone of what a packet takes back
 abbrev buffer_taking : Service → Graph → ℕ → List Record → Option (ℕ × Packet) → Messages → Buffer
@@ -174,7 +174,7 @@ buffer_taking service graph node own o ms = record {
 }
 
 -- what is held with what it brings
-pub joined_with : (graph : Graph) (node : ℕ) (own : List Record) (r : Record) (link : ℕ) (p : Packet) → received own r ≡ Some (link, p)
+pub joined_with : (graph : Graph) (node : ℕ) (own : List Record) (r : Record) (link : ℕ) (p : Packet) → received graph node own r ≡ Some (link, p)
     → all_joined (fate_among (buffers_for graph node own) (gets_of graph node (Some (link, p)))) p (all_burying (gets_of graph node (Some (link, p))) (buffers_for graph node own))
     ≡ buffers_joined graph node own r
 joined_with graph node own r link p is =
@@ -186,7 +186,7 @@ joined_with graph node own r link p is =
     (ap (buffer_taking Reliable graph node own (Some (link, p))) (messages_with Reliable graph node own r link p is f (joins Reliable h p m h.reliable.messages (brought graph node link p)))
     ∙ ap {B = Buffer} (λ (o : Option (ℕ × Packet)). buffer_taking Reliable graph node own o (buffer_with Reliable graph node own r).messages) (sym is))
 
-pub held_with : (graph : Graph) (node : ℕ) (own : List Record) (r : Record) (link : ℕ) (p : Packet) → received own r ≡ Some (link, p) → r.step.noted ≡ []
+pub held_with : (graph : Graph) (node : ℕ) (own : List Record) (r : Record) (link : ℕ) (p : Packet) → received graph node own r ≡ Some (link, p) → r.step.noted ≡ []
     → all_joined (fate_among (buffers_for graph node own) (gets_of graph node (Some (link, p)))) p (all_burying (gets_of graph node (Some (link, p))) (buffers_for graph node own))
     ≡ buffers_with graph node own r
 held_with graph node own r link p is no_news = joined_with graph node own r link p is ∙ sym (none_noted graph node own r no_news)
@@ -222,21 +222,21 @@ covers BestEffort own r k is = is
 covers Reliable own r k is = covers_more (noted_hosts own) r.step.noted k is
 
 -- what is kept without what is void by others is kept without it from the start
-voids : (b : ℕ) (failed more : List Announced) (was : Key → Bool) (ms : Messages) → Covers failed more → without_void more (kept b failed was ms) ≡ kept b more was ms
+voids : (b : ℕ) (failed more : List Announced) (was : Key → Bool) (ms : Messages) → Covers failed more → without_void more (still_held b failed was ms) ≡ still_held b more was ms
 voids b failed more was ms cover =
     filter_swap (λ m. not (is_void more m.0)) (λ m. nat_le b m.0.ts.0) (without_keys was (without_void failed ms))
     ∙ ap (from_barrier b) (filter_swap (λ m. not (is_void more m.0)) (λ m. not (was m.0)) (without_void failed ms) ∙ ap (without_keys was) (without_more failed more ms cover))
 
 -- what a barrier lets out of what was kept before, without what is void and what is taken back now
 lets_out : (b n : ℕ) (failed more : List Announced) (stone was now : Key → Bool) (ms : Messages) → Covers failed more → Agree b stone now → ((k : Key) → was k ≡ true → now k ≡ true)
-    → without_keys stone (without_void more (below_barrier n (kept b failed was ms))) ≡ below_barrier n (kept b more now ms)
+    → without_keys stone (without_void more (below_barrier n (still_held b failed was ms))) ≡ below_barrier n (still_held b more now ms)
 lets_out b n failed more stone was now ms cover agree stays =
-    ap (without_keys stone) (filter_swap (λ m. not (is_void more m.0)) (λ m. nat_lt m.0.ts.0 n) (kept b failed was ms) ∙ ap (below_barrier n) (voids b failed more was ms cover))
-    ∙ filter_swap (λ m. not (stone m.0)) (λ m. nat_lt m.0.ts.0 n) (kept b more was ms)
+    ap (without_keys stone) (filter_swap (λ m. not (is_void more m.0)) (λ m. nat_lt m.0.ts.0 n) (still_held b failed was ms) ∙ ap (below_barrier n) (voids b failed more was ms cover))
+    ∙ filter_swap (λ m. not (stone m.0)) (λ m. nat_lt m.0.ts.0 n) (still_held b more was ms)
     ∙ ap (below_barrier n) (without_stones b stone was now (without_void more ms) agree stays)
 
 -- what they let out is what the record logs
-pub logs : (graph : Graph) (node : ℕ) (own : List Record) (r : Record) (b : Barriers) → AreBarriers (ins_of graph node) (moments_of (r ∷ own)) b
+pub logs : (graph : Graph) (node : ℕ) (own : List Record) (r : Record) (b : Barriers) → AreBarriers (ins_of graph node) (moments_of graph node (r ∷ own)) b
     → logged_by b (buffers_with graph node own r) ≡ logged graph node own r
 logs graph node own r b are =
     let passed : Service → ℕ → List (Service × Entry) =
@@ -258,11 +258,11 @@ buffer_past service graph node own r failed was newest = record {
   failed = failed_for service (r ∷ own);
   tombstones = keys_from (barrier_at (plane_of service) graph node (r ∷ own)) (stones_during service graph node own r);
   newest = newest;
-  messages = kept (barrier_at (plane_of service) graph node (r ∷ own)) failed was (held service graph node (r ∷ own));
+  messages = still_held (barrier_at (plane_of service) graph node (r ∷ own)) failed was (held service graph node (r ∷ own));
 }
 
-left_is : (b c n : ℕ) (failed : List Announced) (was : Key → Bool) (ms : Messages) (k : Buffer) → k.messages ≡ kept b failed was ms → n ≡ c → b ≤ c
-    → left_by n k ≡ record k { barrier = c; tombstones = keys_from c k.tombstones; messages = kept c failed was ms }
+left_is : (b c n : ℕ) (failed : List Announced) (was : Key → Bool) (ms : Messages) (k : Buffer) → k.messages ≡ still_held b failed was ms → n ≡ c → b ≤ c
+    → left_by n k ≡ record k { barrier = c; tombstones = keys_from c k.tombstones; messages = still_held c failed was ms }
 left_is b c n failed was ms k messages_are same rises =
     ap {B = Buffer} (λ (x : ℕ). left_by x k) same
     ∙ ap {B = Buffer} (λ (xs : Messages). record k { barrier = c; tombstones = keys_from c k.tombstones; messages = xs })
@@ -325,7 +325,7 @@ pub record Returns (graph : Graph) (node : ℕ) (own : List Record) (r : Record)
   pub got : Option Packet
   pub held_are : buffers_joined graph node own r ≡ all_joined r.step.fate p (all_burying got (buffers_for graph node own))
 
-returns_none : (graph : Graph) (node : ℕ) (own : List Record) (r : Record) (p : Packet) → r.step.fate ≡ fate graph node own r → received own r ≡ None → Returns graph node own r p
+returns_none : (graph : Graph) (node : ℕ) (own : List Record) (r : Record) (p : Packet) → r.step.fate ≡ fate graph node own r → received graph node own r ≡ None → Returns graph node own r p
 returns_none graph node own r p fate_is none =
     let h : Buffers = buffers_for graph node own in
     let no_fate : None ≡ r.step.fate = still_fate graph node own r none ∙ sym fate_is in
@@ -335,7 +335,7 @@ returns_none graph node own r p fate_is none =
       held_are = still_joined graph node own r none ∙ ap (λ (f : Option Fate). all_joined f p h) no_fate;
     }
 
-returns_some : (graph : Graph) (node : ℕ) (own : List Record) (r : Record) (link : ℕ) (p : Packet) → r.step.fate ≡ fate graph node own r → received own r ≡ Some (link, p) → Returns graph node own r p
+returns_some : (graph : Graph) (node : ℕ) (own : List Record) (r : Record) (link : ℕ) (p : Packet) → r.step.fate ≡ fate graph node own r → received graph node own r ≡ Some (link, p) → Returns graph node own r p
 returns_some graph node own r link p fate_is is =
     let h : Buffers = buffers_for graph node own in
     let m : Option Packet = gets_of graph node (Some (link, p)) in
@@ -347,12 +347,12 @@ returns_some graph node own r link p fate_is is =
     }
 
 returns_by : (graph : Graph) (node : ℕ) (own : List Record) (r : Record) (l : LinkId) (p : Packet) (o : Option (ℕ × Packet)) → r.step.fate ≡ fate graph node own r → r.took ≡ Link l p
-    → received own r ≡ o → Returns graph node own r p
+    → received graph node own r ≡ o → Returns graph node own r p
 returns_by graph node own r l p None fate_is took is = returns_none graph node own r p fate_is is
 returns_by graph node own r l p (Some q) fate_is took is =
     let same : p ≡ q.1 =
-    received_packet (moments_of own) r.event l p q (subst (λ (t : Took). received_of (moments_of own) r.event t ≡ Some q) took is) in
+    received_packet (moments_of graph node own) r.event l p q (subst (λ (t : Took). received_of (moments_of graph node own) r.event t ≡ Some q) took is) in
     returns_some graph node own r q.0 p fate_is (is ∙ ap {B = Option (ℕ × Packet)} (λ (x : Packet). Some (q.0, x)) (sym same))
 
 pub returns_held : (graph : Graph) (node : ℕ) (own : List Record) (r : Record) (l : LinkId) (p : Packet) → r.step.fate ≡ fate graph node own r → r.took ≡ Link l p → Returns graph node own r p
-returns_held graph node own r l p fate_is took = returns_by graph node own r l p (received own r) fate_is took refl
+returns_held graph node own r l p fate_is took = returns_by graph node own r l p (received graph node own r) fate_is took refl

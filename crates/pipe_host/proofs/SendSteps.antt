@@ -12,13 +12,13 @@ use Rattle.pipe_base.specs.declared.step.Outcome.{Outcome}
 use Rattle.pipe_base.specs.declared.step.Outcome.TheVariants.{Ok}
 use Rattle.pipe_base.specs.declared.step.Step.{Step}
 use Rattle.pipe_base.specs.Clock.{stamp_at}
-use Rattle.pipe_base.specs.Graph.{Graph}
-use Rattle.pipe_base.specs.Limits.{last_stamp, most_unsettled}
+use Rattle.pipe_graph.specs.Graph.{Graph}
+use Rattle.pipe_base.specs.Limits.{most_unsettled}
 use Rattle.pipe_base.specs.Packets.{Fields, sent_to}
 use Rattle.pipe_base.specs.Promise.{promise_of}
 use Rattle.pipe_base.specs.Scattering.{Scattering, SenderCall, IsAboveBegun, begun}
 use Rattle.pipe_base.specs.Settled.{unsettled}
-use Rattle.pipe_base.specs.ShortestRoute.{route}
+use Rattle.pipe_graph.specs.ShortestRoute.{route}
 use Rattle.pipe_base.specs.Step.{quiet_step}
 use Rattle.pipe_base.specs.Ways.{lost, routed, with_ways}
 use Rattle.pipe_model.specs.declared.event.Event.TheVariants.{Send}
@@ -38,7 +38,7 @@ use Rattle.pipe_host.specs.declared.host.Host.{Host}
 use Rattle.pipe_host.specs.declared.sending.Stamp.{Stamp}
 use Rattle.pipe_host.specs.Host.{Stands}
 use Rattle.pipe_host.specs.Sending.{IsRefused, IsStamped, begun_by, is_full, promise_with}
-use Rattle.pipe_host.specs.Steps.{sent}
+use Rattle.pipe_model.specs.Records.{sent}
 use Rattle.pipe_host.proofs.HostSteps.{fields_of_host, notes_none}
 use Rattle.pipe_host.proofs.RecordLaws.{still_logged}
 
@@ -49,14 +49,15 @@ window_is Reliable calls pending stands = ap (nat_le most_unsettled) (count_left
 
 -- what is answered to a send is what the host's own records give
 outcome_is : (graph : Graph) (host : HostId) (own : List Record) (service : Service) (now : Ts) (dests : List (HostId × List ℕ)) (k : Host) → Stands graph host.0 own k
-    → send_outcome (first_failed k.held.reliable.failed dests) (is_full service k.sender) now.0 k.clock.next.0 ≡ own_outcome graph host.0 own (Send host service now dests)
+    → send_outcome (first_failed k.held.reliable.failed dests) (is_full service k.sender) k.clock.top.0 now.0 k.clock.next.0 ≡ own_outcome graph host.0 own (Send host service now dests)
 outcome_is graph host own service now dests k stands =
-    ap (λ (h : Buffers). send_outcome (first_failed h.reliable.failed dests) (is_full service k.sender) now.0 k.clock.next.0) stands.held_are
-    ∙ ap (λ (full : Bool). send_outcome (first_failed (noted_hosts own) dests) full now.0 k.clock.next.0) (window_is service (sender_calls graph host.0 own) k.sender stands.sender_is)
-    ∙ ap (λ (n : ℕ). send_outcome (first_failed (noted_hosts own) dests) (is_window_full service (unsettled (sender_calls graph host.0 own))) now.0 n) stands.next_is
+    ap (λ (h : Buffers). send_outcome (first_failed h.reliable.failed dests) (is_full service k.sender) k.clock.top.0 now.0 k.clock.next.0) stands.held_are
+    ∙ ap (λ (full : Bool). send_outcome (first_failed (noted_hosts own) dests) full k.clock.top.0 now.0 k.clock.next.0) (window_is service (sender_calls graph host.0 own) k.sender stands.sender_is)
+    ∙ ap (λ (n : ℕ). send_outcome (first_failed (noted_hosts own) dests) (is_window_full service (unsettled (sender_calls graph host.0 own))) k.clock.top.0 now.0 n) stands.next_is
+    ∙ ap (λ (top : ℕ). send_outcome (first_failed (noted_hosts own) dests) (is_window_full service (unsettled (sender_calls graph host.0 own))) top now.0 (next graph host.0 own)) stands.top_is
 
-accepted : (now n : ℕ) → stamp_at now n ≤ last_stamp → Ok ≡ clock_outcome now n
-accepted now n fits = let test : nat_le (stamp_at now n) last_stamp ≡ true = le-leb (stamp_at now n) last_stamp fits in rw test refl
+accepted : (top now n : ℕ) → stamp_at now n ≤ top → Ok ≡ clock_outcome top now n
+accepted top now n fits = let test : nat_le (stamp_at now n) top ≡ true = le-leb (stamp_at now n) top fits in rw test refl
 
 -- the promise after a send
 promised : (service : Service) (host : HostId) (now ts : Ts) (dests : List (HostId × List ℕ)) (calls : List SenderCall) (pending : List Pending) → sending.Stands calls pending
@@ -76,9 +77,9 @@ begins_none BestEffort host now dests calls = refl
 begins_none Reliable host now dests calls = refl
 
 -- a stamp is above all scatterings that were begun
-pub stamp_above_begun : (graph : Graph) (node : ℕ) (own : List Record) (stamp : ℕ) → next own ≤ stamp → IsAboveBegun stamp (sender_calls graph node own)
+pub stamp_above_begun : (graph : Graph) (node : ℕ) (own : List Record) (stamp : ℕ) → next graph node own ≤ stamp → IsAboveBegun stamp (sender_calls graph node own)
 stamp_above_begun graph node own stamp above =
-    All-weaker (λ (s : Scattering). s.ts.0 < next own) (λ (s : Scattering). s.ts.0 < stamp) (λ s below. omega (arith, below, above)) (begun (sender_calls graph node own)) (begun_below_next graph node own)
+    All-weaker (λ (s : Scattering). s.ts.0 < next graph node own) (λ (s : Scattering). s.ts.0 < stamp) (λ s below. omega (arith, below, above)) (begun (sender_calls graph node own)) (begun_below_next graph node own)
 
 -- a send that is refused
 pub refuses : (graph : Graph) (host : HostId) (own : List Record) (service : Service) (now : Ts) (dests : List (HostId × List ℕ)) (outcome : Outcome) (k : Host) (step : Step)
@@ -92,7 +93,7 @@ refuses graph host own service now dests outcome k step stands refused step_is =
       downed_is = refl;
       dropped_is = refl;
       noted_is = notes_none graph host.0 stands.host;
-      stamped_is = sym (refused.unstamped (stamp_at now.0 (next own))) ∙ ap {B = Option Ts} (λ (o : Outcome). where_ok o (stamp_at now.0 (next own))) is;
+      stamped_is = sym (refused.unstamped (stamp_at now.0 (next graph host.0 own))) ∙ ap {B = Option Ts} (λ (o : Outcome). where_ok o (stamp_at now.0 (next graph host.0 own))) is;
       fate_is = refl;
       logged_is = still_logged graph host.0 own r refl;
       put_is = refl;
@@ -112,14 +113,14 @@ sends graph host own service now dests s k step stands some stamped step_is =
     let messages : Fields → List Packet = λ g. map (sent_to service host ts g) dests in
     let st : Step = with_ways (route graph (known_drops own) host.0) (messages f) (record (quiet_step Ok) { stamped = Some ts }) in
     let r : Record = sent host service now dests st in
-    let stamp_is : ts.0 ≡ stamp_at now.0 (next own) = stamped.stamp_is ∙ ap (stamp_at now.0) stands.next_is in
+    let stamp_is : ts.0 ≡ stamp_at now.0 (next graph host.0 own) = stamped.stamp_is ∙ ap (stamp_at now.0) stands.next_is in
     let outcome : Ok ≡ own_outcome graph host.0 own (Send host service now dests) =
-    accepted now.0 k.clock.next.0 (subst (λ (n : ℕ). n ≤ last_stamp) stamped.stamp_is stamped.within)
-    ∙ ap (λ (full : Bool). send_outcome None full now.0 k.clock.next.0) (sym stamped.room)
-    ∙ ap (λ (o : Option HostId). send_outcome o (is_full service k.sender) now.0 k.clock.next.0) (sym stamped.none_failed)
+    accepted k.clock.top.0 now.0 k.clock.next.0 (subst (λ (n : ℕ). n ≤ k.clock.top.0) stamped.stamp_is stamped.within)
+    ∙ ap (λ (full : Bool). send_outcome None full k.clock.top.0 now.0 k.clock.next.0) (sym stamped.room)
+    ∙ ap (λ (o : Option HostId). send_outcome o (is_full service k.sender) k.clock.top.0 now.0 k.clock.next.0) (sym stamped.none_failed)
     ∙ outcome_is graph host own service now dests k stands in
-    let above : next own ≤ ts.0 = omega (arith, stamp_is) in
-    let next_is : next (r ∷ own) ≡ ts.0 + 1 = omega (arith, stamp_is) in
+    let above : next graph host.0 own ≤ ts.0 = omega (arith, stamp_is) in
+    let next_is : next graph host.0 (r ∷ own) ≡ ts.0 + 1 = omega (arith, stamp_is) in
     let fields_is : fields graph host.0 own r ≡ f =
     fields_of_host graph host.0 own r ts.0 (ts.0 + 1) (with_begun (Send host service now dests) (Some ts) calls) stands.host refl next_is refl
     ∙ ap {B = Fields} (λ (n : ℕ). record { be = ts.0; commit = n })
@@ -131,7 +132,7 @@ sends graph host own service now dests s k step stands some stamped step_is =
       downed_is = refl;
       dropped_is = refl;
       noted_is = notes_none graph host.0 stands.host;
-      stamped_is = ap {B = Option Ts} (λ (n : ℕ). Some (record { 0 = n })) stamp_is ∙ ap {B = Option Ts} (λ (o : Outcome). where_ok o (stamp_at now.0 (next own))) outcome;
+      stamped_is = ap {B = Option Ts} (λ (n : ℕ). Some (record { 0 = n })) stamp_is ∙ ap {B = Option Ts} (λ (o : Outcome). where_ok o (stamp_at now.0 (next graph host.0 own))) outcome;
       fate_is = refl;
       logged_is = still_logged graph host.0 own r refl;
       put_is =

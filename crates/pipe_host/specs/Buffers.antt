@@ -28,7 +28,8 @@ fate_by b message = fate_for b.barrier b.failed (has_tombstone b.tombstones) b.m
 
 -- the fate of the message that a host gets, of whichever service
 abbrev pub fate_among : Buffers → Option Packet → Option Fate
-fate_among buffers got = option_or (fate_by buffers.best (message_of BestEffort got)) (fate_by buffers.reliable (message_of Reliable got))
+fate_among buffers got =
+    option_or (fate_by buffers.best (message_of BestEffort got)) (fate_by buffers.reliable (message_of Reliable got))
 
 -- the packet, where it is addressed to the host
 abbrev pub where_mine : Bool → Packet → Option Packet
@@ -46,7 +47,8 @@ newest_after barrier (Some p) stones = if is_recall p.kind then newest_with barr
 
 -- the buffer with that tombstone
 abbrev pub burying : Option Packet → Buffer → Buffer
-burying got b = record b { tombstones = stones_with b.barrier got b.tombstones; newest = newest_after b.barrier got b.tombstones }
+burying got b =
+    record b { tombstones = stones_with b.barrier got b.tombstones; newest = newest_after b.barrier got b.tombstones }
 
 -- reliable messages alone are taken back
 abbrev pub all_burying : Option Packet → Buffers → Buffers
@@ -57,7 +59,8 @@ abbrev pub joined : Service → Option Fate → Packet → Buffer → Buffer
 joined service fate p buffer = record buffer { messages = with_held fate (message_of service (Some p)) buffer.messages }
 
 abbrev pub all_joined : Option Fate → Packet → Buffers → Buffers
-all_joined fate p buffers = record { best = joined BestEffort fate p buffers.best; reliable = joined Reliable fate p buffers.reliable }
+all_joined fate p buffers =
+    record { best = joined BestEffort fate p buffers.best; reliable = joined Reliable fate p buffers.reliable }
 
 -- the buffers with these failed hosts after those that are noted: reliable messages alone are void by them
 abbrev pub all_noting : List Announced → Buffers → Buffers
@@ -73,7 +76,8 @@ IsNew (Some Held) (Some p) messages = has_key (key_of p) messages ≡ false
 IsNew _ _ messages = Unit {0}
 
 abbrev pub IsFresh : Option Fate → Packet → Buffers → Type 0
-IsFresh fate p buffers = (service : Service) → IsNew fate (message_of service (Some p)) (buffer_of service buffers).messages
+IsFresh fate p buffers = (service : Service)
+    → IsNew fate (message_of service (Some p)) (buffer_of service buffers).messages
 
 -- what two barriers let out, best effort first
 abbrev pub logged_by : Barriers → Buffers → List (Service × Entry)

@@ -6,7 +6,7 @@ use Rattle.pipe_base.specs.declared.name.HostId.{HostId}
 use Rattle.pipe_base.specs.declared.name.Ts.{Ts}
 use Rattle.pipe_base.specs.declared.step.Outcome.{Outcome}
 use Rattle.pipe_base.specs.Clock.{stamp_at}
-use Rattle.pipe_base.specs.Limits.{last_stamp, most_unsettled}
+use Rattle.pipe_base.specs.Limits.{most_unsettled}
 use Rattle.pipe_base.specs.Scattering.{SenderCall, Acked, RecallAcked}
 use Rattle.pipe_model.specs.declared.event.Event.{Event}
 use Rattle.pipe_model.specs.declared.event.Event.TheVariants.{Send}
@@ -34,16 +34,18 @@ begun_by BestEffort ts dests pending = pending
 begun_by Reliable ts dests pending = pending ++ started ts dests ∷ []
 
 -- the send is stamped, and this is the promise after it
-pub record IsStamped (k : Host) (service : Service) (now : Ts) (dests : List (HostId × List ℕ)) (s : Stamp) : Type 0 where
+pub record IsStamped (k : Host) (service : Service) (now : Ts) (dests : List (HostId
+    × List ℕ)) (s : Stamp) : Type 0 where
   pub none_failed : first_failed k.held.reliable.failed dests ≡ None
   pub room : is_full service k.sender ≡ false
   pub stamp_is : s.ts.0 ≡ stamp_at now.0 k.clock.next.0
-  pub within : s.ts.0 ≤ last_stamp
+  pub within : s.ts.0 ≤ k.clock.top.0
   pub promise_is : s.promise.0 ≡ promise_with service s.ts.0 k.sender
 
 -- the send is refused with this outcome
-pub record IsRefused (k : Host) (service : Service) (now : Ts) (dests : List (HostId × List ℕ)) (outcome : Outcome) : Type 0 where
-  pub outcome_is : outcome ≡ send_outcome (first_failed k.held.reliable.failed dests) (is_full service k.sender) now.0 k.clock.next.0
+pub record IsRefused (k : Host) (service : Service) (now : Ts) (dests : List (HostId
+    × List ℕ)) (outcome : Outcome) : Type 0 where
+  pub outcome_is : outcome ≡ send_outcome (first_failed k.held.reliable.failed dests) (is_full service k.sender) k.clock.top.0 now.0 k.clock.next.0
   pub unstamped : (stamp : ℕ) → where_ok outcome stamp ≡ None
 
 -- what the sender is told by an answer that a record brings

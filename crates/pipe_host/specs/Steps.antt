@@ -17,12 +17,13 @@ use Rattle.pipe_base.specs.declared.step.Outcome.TheVariants.{Ok}
 use Rattle.pipe_base.specs.declared.step.Step.{Step}
 use Rattle.pipe_base.specs.Clock.{after_logged, next_after}
 use Rattle.pipe_base.specs.Fate.{is_holding}
-use Rattle.pipe_base.specs.Graph.{Graph, ins_of}
-use Rattle.pipe_base.specs.Moment.{Received, with_downed, with_dropped}
+use Rattle.pipe_graph.specs.Graph.{Graph, ins_of}
+use Rattle.pipe_base.specs.Moment.{Received, with_downed}
+use Rattle.pipe_base.specs.Entries.{with_entries}
 use Rattle.pipe_base.specs.Packets.{Fields, ack_to, recall_ack_to}
 use Rattle.pipe_base.specs.Promise.{promise_of}
 use Rattle.pipe_base.specs.Resends.{resends}
-use Rattle.pipe_base.specs.ShortestRoute.{route}
+use Rattle.pipe_graph.specs.ShortestRoute.{route}
 use Rattle.pipe_base.specs.Step.{quiet_step}
 use Rattle.pipe_base.specs.Ways.{with_beacons, with_ways}
 use Rattle.pipe_barrier.specs.declared.registers.Barriers.{Barriers}
@@ -42,22 +43,6 @@ use Rattle.pipe_relsend.specs.Pending.{Pending}
 use Rattle.pipe_relsend.specs.Sending.{first_or}
 use Rattle.pipe_host.specs.declared.host.Host.{Host}
 use Rattle.pipe_host.specs.Buffers.{last_of, logged_by}
-
--- a host sends a scattering of a service
-abbrev pub sent : HostId → Service → Ts → List (HostId × List ℕ) → Step → Record
-sent host service now dests step = record { event = Send host service now dests; took = Nothing; step = step }
-
--- a packet was taken from a link
-abbrev pub taken : LinkId → Packet → ℕ → Bool → Step → Record
-taken link p place keep step = record { event = Take link place keep; took = Link link p; step = step }
-
--- a node's clock read this
-abbrev pub ticked : NodeId → Ts → Step → Record
-ticked node now step = record { event = Tick node now; took = Nothing; step = step }
-
--- a node was told this by a control message
-abbrev pub told : NodeId → Control → ℕ → Bool → Step → Record
-told node control place keep step = record { event = ControlTake place keep; took = Message (record { to = Node node; control = control }); step = step }
 
 -- the two barriers of a host's packets, with this next timestamp
 abbrev pub fields_at : ℕ → List Pending → Fields
@@ -89,7 +74,7 @@ response graph node own b k fate p =
 pub record IsReceipt (k : Host) (link : LinkId) (p : Packet) (fate : Option Fate) (step : Step) : Type 0 where
   pub barriers : Barriers
   pub barriers_are : (graph : Graph) (node : ℕ) (own : List Record) → links.Stands graph node own k.links
-      → AreBarriers (ins_of graph node) (Received link.0 p.be.0 p.commit.0 ∷ moments_of own) barriers
+      → AreBarriers (ins_of graph node) (Received link.0 p.be.0 p.commit.0 ∷ moments_of graph node own) barriers
   pub step_is : (graph : Graph) (node : ℕ) (own : List Record) → links.Stands graph node own k.links
       → step ≡ response graph node own barriers k fate p
 
@@ -99,9 +84,9 @@ pub record IsObeying (k : Host) (control : Control) (drops : List LinkId) (count
   pub marks : List (LinkId × Ts)
   pub barriers : Barriers
   pub marks_are : (graph : Graph) (node : ℕ) (own : List Record) → links.Stands graph node own k.links
-      → marks ≡ told_marks (ins_of graph node) (moments_of own) control
+      → marks ≡ told_marks (ins_of graph node) (moments_of graph node own) control
   pub barriers_are : (graph : Graph) (node : ℕ) (own : List Record) → links.Stands graph node own k.links
-      → AreBarriers (ins_of graph node) (with_dropped drops (with_downed marks (moments_of own))) barriers
+      → AreBarriers (ins_of graph node) (with_entries (ins_of graph node) drops (with_downed marks (moments_of graph node own))) barriers
   pub step_is : step ≡ record (quiet_step Ok) {
     downed = marks;
     dropped = drops;
@@ -112,7 +97,7 @@ pub record IsObeying (k : Host) (control : Control) (drops : List LinkId) (count
 -- the two barriers of a host's packets after a tick that reads this and logs these entries
 abbrev pub fields_ticked : Graph → ℕ → List Record → Ts → List (Service × Entry) → Fields
 fields_ticked graph node own now log =
-    record { be = next_after (next own) now.0 None log; commit = promise_of (next_after (next own) now.0 None log) (sender_calls graph node own) }
+    record { be = next_after (next graph node own) now.0 None log; commit = promise_of (next_after (next graph node own) now.0 None log) (sender_calls graph node own) }
 
 -- The step of a tick with these fields: links go down, the controller is told this, these entries are logged, what is not
 -- answered is put again, and each link out has a beacon.

@@ -9,9 +9,10 @@ ghost use Rattle.pipe_reorder.specs.Buffer.{empty_buffer, passed_by, with_no_bur
 ghost use Rattle.pipe_host.specs.declared.buffers.Buffers.{Buffers as ABuffers};
 ghost use Rattle.pipe_host.specs.Buffers.{IsFresh, all_burying, all_joined, all_left, all_noting, buffer_of, fate_among, logged_by, where_mine};
 
-use crate::fates::{self, carries, is_recall, key_of};
+use crate::fates;
 use pipe_barrier::Barriers;
 use pipe_base::{Control, Fate, Key, LoggedList, NoMemory, Noted, Packet, Service};
+use pipe_model::{carries, is_recall, key_of};
 use pipe_reorder::Reorder;
 use std::alloc::Global;
 
@@ -58,14 +59,15 @@ impl Buffers {
         ensures err { OnErr result (self.new ≡ self.old) }
     {
         match control {
-            Control::Notice { list } => self.reliable.adopt(list),
+            Control::Notice { list } => self.reliable.adopt(list.as_slice()),
             _ => Ok(0),
         }
     }
 
     /// Notes the last so many failed hosts no more: the way back from an `adopt` that answered this count. Takes no memory.
     pub fn unadopt(&mut self, count: usize)
-        ensures { (before : ABuffers) (failed : List Announced) → count ≡ length failed → self.old ≡ all_noting failed before → self.new ≡ before }
+        ensures { (before : ABuffers) (failed : List Announced) → count ≡ length failed
+            → self.old ≡ all_noting failed before → self.new ≡ before }
     {
         self.reliable.unadopt(count);
     }
@@ -113,7 +115,7 @@ impl Buffers {
             self.reliable.bury(key_of(packet))
         } else {
             self.hold(fate, packet)?;
-            self.reliable.settle();
+            self.reliable.forget_newest();
             Ok(())
         }
     }
@@ -141,7 +143,8 @@ impl Buffers {
 
     /// Takes out again what `take_in` took in of this packet, where this tombstone was the newest before. Takes no memory.
     pub fn give_back(&mut self, fate: Option<Fate>, packet: &Packet, newest: Option<Key>)
-        ensures { (before : ABuffers) (got : Option APacket) → newest ≡ before.reliable.newest → IsFresh fate packet.now before
+        ensures { (before : ABuffers) (got : Option APacket) → newest ≡ before.reliable.newest
+            → IsFresh fate packet.now before
             → self.old ≡ all_joined fate packet.now (all_burying got before) → self.new ≡ before }
     {
         self.let_go(fate, packet);
@@ -150,7 +153,8 @@ impl Buffers {
 
     /// Holds no more what `hold` holds for this packet. Takes no memory.
     fn let_go(&mut self, fate: Option<Fate>, packet: &Packet)
-        ensures { (before : ABuffers) → IsFresh fate packet.now before → self.old ≡ all_joined fate packet.now before → self.new ≡ before }
+        ensures { (before : ABuffers) → IsFresh fate packet.now before → self.old ≡ all_joined fate packet.now before
+            → self.new ≡ before }
     {
         if carries(Service::BestEffort, packet.kind) {
             fates::let_go(&mut self.best, fate, packet);

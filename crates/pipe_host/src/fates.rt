@@ -2,38 +2,11 @@
 ghost use Rattle.std.specs.Prelude.{◌≡◌, Some, OnErr, OnOk};
 ghost use Rattle.pipe_base.specs.Messages.{Messages};
 ghost use Rattle.pipe_model.specs.Fate.{with_held};
-ghost use Rattle.pipe_model.specs.Got.{carries, key_of};
-ghost use Rattle.pipe_model.specs.Recalls.{is_recall};
 ghost use Rattle.pipe_host.specs.Buffers.{IsNew};
 
-use pipe_base::{Fate, Key, NoMemory, Packet, PacketKind, Service};
+use pipe_base::{Fate, NoMemory, Packet};
+use pipe_model::key_of;
 use pipe_reorder::Reorder;
-
-/// Whether packets of this kind carry a message of the service.
-pub fn carries(service: Service, kind: PacketKind) -> bool
-    ensures { result ≡ carries service kind }
-{
-    match service {
-        Service::BestEffort => matches!(kind, PacketKind::Plain),
-        Service::Reliable => matches!(kind, PacketKind::Prepare),
-    }
-}
-
-/// Whether packets of this kind take a message back.
-pub fn is_recall(kind: PacketKind) -> bool
-    ensures { result ≡ is_recall kind }
-{
-    matches!(kind, PacketKind::Recall)
-}
-
-pub fn key_of(packet: &Packet) -> Key
-    ensures { result ≡ key_of packet.now }
-{
-    Key {
-        ts: packet.ts,
-        src: packet.src,
-    }
-}
 
 /// Holds the message of a packet whose fate is held.
 pub fn hold(held: &mut Reorder, fate: Option<Fate>, packet: &Packet) -> Result<(), NoMemory>
@@ -48,7 +21,9 @@ pub fn hold(held: &mut Reorder, fate: Option<Fate>, packet: &Packet) -> Result<(
 
 /// Holds no more what `hold` holds for this packet.
 pub fn let_go(held: &mut Reorder, fate: Option<Fate>, packet: &Packet)
-    ensures { (messages : Messages) → IsNew fate (Some packet.now) messages → held.old.messages ≡ with_held fate (Some packet.now) messages → held.new ≡ record held.old { messages = messages } }
+    ensures { (messages : Messages) → IsNew fate (Some packet.now) messages
+        → held.old.messages ≡ with_held fate (Some packet.now) messages
+        → held.new ≡ record held.old { messages = messages } }
 {
     match fate {
         Some(Fate::Held) => held.unhold(key_of(packet)),

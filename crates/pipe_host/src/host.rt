@@ -1,6 +1,6 @@
 // A host.
 ghost use Rattle.std.specs.Prelude.{◌≡◌, ◌∷◌, ◌<◌, ◌≤◌, [], ℕ, Bool, List, true, length, IfOk, OnErr, OnOk};
-ghost use Rattle.pipe_base.specs.Graph.{Graph, ins_of, is_host};
+ghost use Rattle.pipe_graph.specs.Graph.{Graph, ins_of, is_host};
 ghost use Rattle.pipe_base.specs.Limits.{most_receivers};
 ghost use Rattle.pipe_base.specs.Moment.{has_link};
 ghost use Rattle.pipe_base.specs.Step.{quiet_step};
@@ -14,7 +14,7 @@ ghost use Rattle.pipe_model.specs.Run.{IsNodeStep};
 ghost use Rattle.pipe_model.specs.Sender.{sender_calls};
 ghost use Rattle.pipe_relsend.specs.Sending as sending;
 ghost use Rattle.pipe_host.specs.Host.{Does, Stands, StandsWith, buffer_for};
-ghost use Rattle.pipe_host.specs.Steps.{sent, taken, ticked, told};
+ghost use Rattle.pipe_model.specs.Records.{told, sent, taken, ticked};
 
 use crate::buffers::Buffers;
 use crate::records::{give_back, hear, let_out, note, take_back};
@@ -57,7 +57,7 @@ impl Host {
         Ok(Host {
             alloc,
             links: Links::new(alloc, topology, NodeId(host.0))?,
-            clock: HostClock::new(),
+            clock: HostClock::new(topology.top()),
             sender: Sender::new(alloc)?,
             held: Buffers::new(alloc),
         })
@@ -65,7 +65,8 @@ impl Host {
 
     pub fn host(&self) -> HostId
         ensures value { result.0 ≡ self.now.links.node.0 }
-        ensures stands { (graph : Graph) (node : ℕ) (own : List ARecord) → Stands graph node own self.now → result.0 ≡ node }
+        ensures stands { (graph : Graph) (node : ℕ) (own : List ARecord) → Stands graph node own self.now
+            → result.0 ≡ node }
     {
         HostId(self.links.node().0)
     }
@@ -73,14 +74,16 @@ impl Host {
     /// The next timestamp.
     pub fn next(&self) -> Ts
         ensures value { result ≡ self.now.clock.next }
-        ensures stands { (graph : Graph) (node : ℕ) (own : List ARecord) → Stands graph node own self.now → result.0 ≡ next own }
+        ensures stands { (graph : Graph) (node : ℕ) (own : List ARecord) → Stands graph node own self.now
+            → result.0 ≡ next graph node own }
     {
         self.clock.next()
     }
 
     /// What the host promises: no reliable scattering below it is undecided.
     pub fn promise(&self) -> Ts
-        ensures { (graph : Graph) (node : ℕ) (own : List ARecord) → Stands graph node own self.now → result.0 ≡ promise graph node own }
+        ensures { (graph : Graph) (node : ℕ) (own : List ARecord) → Stands graph node own self.now
+            → result.0 ≡ promise graph node own }
     {
         self.sender.promise(self.clock.next())
     }
@@ -88,7 +91,7 @@ impl Host {
     /// The registers of the links into the host.
     pub fn registers(&self) -> &Registers
         ensures { (graph : Graph) (node : ℕ) (own : List ARecord) → Stands graph node own self.now
-            → registers.Stands (ins_of graph node) result.now (moments_of own) }
+            → registers.Stands (ins_of graph node) result.now (moments_of graph node own) }
     {
         self.links.registers()
     }
@@ -104,7 +107,8 @@ impl Host {
 
     /// The failed hosts that are noted, in the order in which the host came to know of them.
     pub fn noted(&self) -> &Noted
-        ensures { (graph : Graph) (node : ℕ) (own : List ARecord) → Stands graph node own self.now → result.now ≡ noted_hosts own }
+        ensures { (graph : Graph) (node : ℕ) (own : List ARecord) → Stands graph node own self.now
+            → result.now ≡ noted_hosts own }
     {
         self.held.noted()
     }
@@ -150,7 +154,8 @@ impl Host {
     ) -> Result<(), NoMemory>
         requires some { 0 < length dests }
         requires few { length dests ≤ most_receivers }
-        ensures ok { OnOk result ((graph : Graph) (host : HostId) (own : List ARecord) → Stands graph host.0 own self.old
+        ensures ok { OnOk result ((graph : Graph) (host : HostId) (own : List ARecord)
+            → Stands graph host.0 own self.old
             → Does graph host.0 own (sent host service now dests step.new) self.new) }
         ensures err { OnErr result ((self.new ≡ self.old) × (step.new ≡ quiet_step Outcome.Ok)) }
     {
@@ -174,8 +179,10 @@ impl Host {
 
     /// Takes a packet from a link into the host. The step is empty first, and after want of memory, which changes nothing.
     pub fn take(&mut self, link: LinkId, packet: Packet, step: &mut Step) -> Result<(), NoMemory>
-        ensures ok { OnOk result ((graph : Graph) (node : ℕ) (own : List ARecord) (place : ℕ) (keep : Bool) → Stands graph node own self.old
-            → has_link link.0 (ins_of graph node) ≡ true → Does graph node own (taken link packet place keep step.new) self.new) }
+        ensures ok { OnOk result ((graph : Graph) (node : ℕ) (own : List ARecord) (place : ℕ) (keep : Bool)
+            → Stands graph node own self.old
+            → has_link link.0 (ins_of graph node) ≡ true
+            → Does graph node own (taken link packet place keep step.new) self.new) }
         ensures err { OnErr result ((self.new ≡ self.old) × (step.new ≡ quiet_step Outcome.Ok)) }
     {
         *step = Step::new(self.alloc);
@@ -197,7 +204,8 @@ impl Host {
 
     /// The host's clock reads `now`. The step is empty first, and after want of memory, which changes nothing.
     pub fn tick(&mut self, now: Ts, step: &mut Step) -> Result<(), NoMemory>
-        ensures ok { OnOk result ((graph : Graph) (node : NodeId) (own : List ARecord) → Stands graph node.0 own self.old
+        ensures ok { OnOk result ((graph : Graph) (node : NodeId) (own : List ARecord)
+            → Stands graph node.0 own self.old
             → Does graph node.0 own (ticked node now step.new) self.new) }
         ensures err { OnErr result ((self.new ≡ self.old) × (step.new ≡ quiet_step Outcome.Ok)) }
     {
@@ -226,7 +234,8 @@ impl Host {
         step: &mut Step,
     ) -> Result<(), NoMemory>
         requires { self.old.links.node.0 < topology.now.nodes }
-        ensures ok { OnOk result ((node : NodeId) (own : List ARecord) (place : ℕ) (keep : Bool) → Stands topology.now node.0 own self.old
+        ensures ok { OnOk result ((node : NodeId) (own : List ARecord) (place : ℕ) (keep : Bool)
+            → Stands topology.now node.0 own self.old
             → Does topology.now node.0 own (told node control place keep step.new) self.new) }
         ensures err { OnErr result ((self.new ≡ self.old) × (step.new ≡ quiet_step Outcome.Ok)) }
     {

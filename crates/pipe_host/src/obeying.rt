@@ -4,7 +4,8 @@ ghost use Rattle.pipe_base.specs.declared.name.NodeId.{NodeId};
 ghost use Rattle.pipe_model.specs.declared.record.Record.{Record};
 ghost use Rattle.pipe_host.specs.Buffers.{last_of};
 ghost use Rattle.pipe_host.specs.Host.{Stands, Works};
-ghost use Rattle.pipe_host.specs.Steps.{IsObeying, told};
+ghost use Rattle.pipe_host.specs.Steps.{IsObeying};
+ghost use Rattle.pipe_model.specs.Records.{told};
 
 use crate::host::Host;
 use pipe_base::{AnnouncedList, Control, KeptStep, LinkList, List, NoMemory, Noted, Step};
@@ -22,7 +23,8 @@ impl Host {
         control: &Control,
     ) -> Result<KeptStep, NoMemory>
         requires { self.old.links.node.0 < topology.now.nodes }
-        ensures ok { IfOk result (λ step. (node : NodeId) (own : List Record) (place : ℕ) (keep : Bool) → Stands topology.now node.0 own self.old
+        ensures ok { IfOk result (λ step. (node : NodeId) (own : List Record) (place : ℕ) (keep : Bool)
+            → Stands topology.now node.0 own self.old
             → Works topology.now node.0 own (told node control.now place keep step) self.new) }
         ensures err { OnErr result (self.new ≡ self.old) }
     {
@@ -59,7 +61,7 @@ impl Host {
 fn last_noted(alloc: Global, noted: &Noted, count: usize) -> Result<AnnouncedList, NoMemory>
     ensures { IfOk result (λ list. list ≡ last_of count noted.now) }
 {
-    let known = noted.count().saturating_sub(count);
+    let known = usize::from(noted.count()).saturating_sub(count);
     match noted.as_slice().get(known..) {
         Some(news) => Ok(List::from_vec(news.to_vec(alloc)?)),
         None => Ok(List::new(alloc)),

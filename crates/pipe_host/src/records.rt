@@ -1,6 +1,6 @@
 // What a record does to what its host keeps, and how it is undone.
 ghost use Rattle.std.specs.Prelude.{◌≡◌, ◌∷◌, ℕ, List, Some, true};
-ghost use Rattle.pipe_base.specs.Graph.{Graph, is_host};
+ghost use Rattle.pipe_graph.specs.Graph.{Graph, is_host};
 ghost use Rattle.pipe_base.specs.Scattering.{SenderCall};
 ghost use Rattle.pipe_links.specs.Links.{AreBarriersAt};
 ghost use Rattle.pipe_model.specs.declared.record.Record.{Record as ARecord};
@@ -28,8 +28,10 @@ enum Heard {
 
 /// Hands the answer to the sender that the record brings to the host with these links, if it brings one.
 pub fn hear(sender: &mut Sender, links: &Links, made: &Record)
-    ensures { (graph : Graph) (node : ℕ) (own : List ARecord) (calls : List SenderCall) → StandsTaking made.now.event graph node own links.now → is_host graph node ≡ true
-        → ComesIn graph node made.now.event → sending.Stands calls sender.old → sending.Stands (with_answer (gets graph node own made.now) calls) sender.new }
+    ensures { (graph : Graph) (node : ℕ) (own : List ARecord) (calls : List SenderCall)
+        → StandsTaking made.now.event graph node own links.now → is_host graph node ≡ true
+        → ComesIn graph node made.now.event → sending.Stands calls sender.old
+        → sending.Stands (with_answer (gets graph node own made.now) calls) sender.new }
 {
     match answer_in(links, made) {
         Some(Heard::Ack { ts, host }) => sender.ack(ts, host),
@@ -40,8 +42,10 @@ pub fn hear(sender: &mut Sender, links: &Links, made: &Record)
 
 /// The answer that the record brings to the host with these links.
 fn answer_in(links: &Links, made: &Record) -> Option<Heard>
-    ensures { (graph : Graph) (node : ℕ) (own : List ARecord) (calls : List SenderCall) → StandsTaking made.now.event graph node own links.now → is_host graph node ≡ true
-        → ComesIn graph node made.now.event → with_answer (gets graph node own made.now) calls ≡ with_heard result calls }
+    ensures { (graph : Graph) (node : ℕ) (own : List ARecord) (calls : List SenderCall)
+        → StandsTaking made.now.event graph node own links.now → is_host graph node ≡ true
+        → ComesIn graph node made.now.event
+        → with_answer (gets graph node own made.now) calls ≡ with_heard result calls }
 {
     let Event::Take { link, .. } = &made.event else {
         return None;
@@ -104,7 +108,8 @@ pub fn give_back(held: &mut Buffers, made: &Record)
 /// Takes the scattering back that was begun for the record.
 pub fn take_back(sender: &mut Sender, made: &Record)
     ensures { (calls : List SenderCall) → HasReceiver made.now.event
-        → sending.Stands (with_begun made.now.event made.now.step.stamped calls) sender.old → sending.Stands calls sender.new }
+        → sending.Stands (with_begun made.now.event made.now.step.stamped calls) sender.old
+        → sending.Stands calls sender.new }
 {
     if has_begun(made) {
         sender.unbegin();

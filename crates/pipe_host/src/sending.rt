@@ -1,17 +1,16 @@
 // How a host works out a send.
 ghost use Rattle.std.specs.Prelude.{◌≡◌, ◌+◌, ◌<◌, ◌≤◌, List, Some, false, length, map, IfErr, IfOk, OnErr, OnOk};
 ghost use Rattle.pipe_base.specs.declared.name.HostId.{HostId as AHost};
-ghost use Rattle.pipe_base.specs.Graph.{Graph};
+ghost use Rattle.pipe_graph.specs.Graph.{Graph};
 ghost use Rattle.pipe_base.specs.Limits.{most_receivers};
 ghost use Rattle.pipe_base.specs.Packets.{sent_to};
-ghost use Rattle.pipe_base.specs.ShortestRoute.{picked};
+ghost use Rattle.pipe_base.specs.Ways.{picked, with_ways};
 ghost use Rattle.pipe_base.specs.Step.{quiet_step};
-ghost use Rattle.pipe_base.specs.Ways.{with_ways};
 ghost use Rattle.pipe_model.specs.declared.record.Record.{Record};
 ghost use Rattle.pipe_model.specs.OwnOutcome.{first_failed};
 ghost use Rattle.pipe_host.specs.Host.{Stands, Works};
 ghost use Rattle.pipe_host.specs.Sending.{IsRefused, IsStamped, begun_by, is_full, promise_with};
-ghost use Rattle.pipe_host.specs.Steps.{sent};
+ghost use Rattle.pipe_model.specs.Records.{sent};
 
 use crate::host::Host;
 use pipe_base::{
@@ -38,7 +37,8 @@ impl Host {
     ) -> Result<KeptStep, NoMemory>
         requires some { 0 < length dests.now }
         requires few { length dests.now ≤ most_receivers }
-        ensures ok { IfOk result (λ step. (graph : Graph) (host : AHost) (own : List Record) → Stands graph host.0 own self.old
+        ensures ok { IfOk result (λ step. (graph : Graph) (host : AHost) (own : List Record)
+            → Stands graph host.0 own self.old
             → Works graph host.0 own (sent host service now dests.now step) self.new) }
         ensures err { OnErr result (self.new ≡ self.old) }
     {

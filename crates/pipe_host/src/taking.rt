@@ -1,11 +1,11 @@
 // How a host works out the taking of a packet.
 ghost use Rattle.std.specs.Prelude.{◌≡◌, ◌<◌, ◌-◌, ◌^◌, ℕ, Bool, List, Some, true, IfOk, OnErr, OnOk};
 ghost use Rattle.pipe_base.specs.Fate.{is_holding};
-ghost use Rattle.pipe_base.specs.Graph.{Graph, ins_of};
+ghost use Rattle.pipe_graph.specs.Graph.{Graph, ins_of};
 ghost use Rattle.pipe_base.specs.Messages.{AreBelow};
 ghost use Rattle.pipe_base.specs.Moment.{has_link};
 ghost use Rattle.pipe_base.specs.Packets.{Fields, ack_to};
-ghost use Rattle.pipe_base.specs.ShortestRoute.{route};
+ghost use Rattle.pipe_graph.specs.ShortestRoute.{route};
 ghost use Rattle.pipe_base.specs.Ways.{with_ways};
 ghost use Rattle.pipe_links.specs.Links as links;
 ghost use Rattle.pipe_model.specs.declared.record.Record.{Record};
@@ -13,9 +13,9 @@ ghost use Rattle.pipe_model.specs.Got.{gets_of};
 ghost use Rattle.pipe_model.specs.Moments.{known_drops};
 ghost use Rattle.pipe_host.specs.Buffers.{IsFresh, fate_among};
 ghost use Rattle.pipe_host.specs.Host.{Stands, Works};
-ghost use Rattle.pipe_host.specs.Steps.{IsReceipt, answers_as, answers_for, fields_after, response, taken};
+ghost use Rattle.pipe_host.specs.Steps.{IsReceipt, answers_as, answers_for, fields_after, response};
+ghost use Rattle.pipe_model.specs.Records.{taken};
 
-use crate::fates::{carries, is_recall};
 use crate::host::Host;
 use crate::times::deliver;
 use pipe_barrier::Barriers;
@@ -23,14 +23,17 @@ use pipe_base::{
     Body, Entry, Fate, HostId, KeptStep, LinkId, NoMemory, Outcome, Packet, PacketKind, Service,
     Step,
 };
+use pipe_model::{carries, is_recall};
 
 impl Host {
     /// Works out what the taking of a packet from a link into the host does. Nothing changes but that the message that the
     /// packet brings is held, where that is its fate, and that what it takes back has its tombstone. A packet on a link that is
     /// not up is ignored.
     pub fn work_take(&mut self, link: LinkId, packet: &Packet) -> Result<KeptStep, NoMemory>
-        ensures ok { IfOk result (λ step. (graph : Graph) (node : ℕ) (own : List Record) (place : ℕ) (keep : Bool) → Stands graph node own self.old
-            → has_link link.0 (ins_of graph node) ≡ true → Works graph node own (taken link packet.now place keep step) self.new) }
+        ensures ok { IfOk result (λ step. (graph : Graph) (node : ℕ) (own : List Record) (place : ℕ) (keep : Bool)
+            → Stands graph node own self.old
+            → has_link link.0 (ins_of graph node) ≡ true
+            → Works graph node own (taken link packet.now place keep step) self.new) }
         ensures err { OnErr result (self.new ≡ self.old) }
     {
         if !self.links.is_up(link) {
@@ -86,7 +89,8 @@ impl Host {
         packet: &Packet,
         fate: Option<Fate>,
     ) -> Result<KeptStep, NoMemory>
-        ensures { IfOk result (λ step. (graph : Graph) (node : ℕ) (own : List Record) → links.Stands graph node own self.now.links
+        ensures { IfOk result (λ step. (graph : Graph) (node : ℕ) (own : List Record)
+            → links.Stands graph node own self.now.links
             → step ≡ response graph node own barriers self.now fate packet.now) }
     {
         let mut step = Step::new(self.alloc);
@@ -104,7 +108,8 @@ impl Host {
         step: &mut Step,
     ) -> Result<(), NoMemory>
         requires room { step.old.unrouted < 4294967295 }
-        ensures ok { OnOk result ((graph : Graph) (node : ℕ) (own : List Record) → links.Stands graph node own self.now.links → AreBelow (2 ^ 64 - 1) step.old.logged
+        ensures ok { OnOk result ((graph : Graph) (node : ℕ) (own : List Record)
+            → links.Stands graph node own self.now.links → AreBelow (2 ^ 64 - 1) step.old.logged
             → step.new ≡ with_ways (route graph (known_drops own) node)
             (answers_for (record { 0 = node }) (fields_after step.old.logged self.now) fate packet.now) step.old) }
     {

@@ -1,7 +1,7 @@
 // How a host works out a tick.
 ghost use Rattle.std.specs.Prelude.{◌≡◌, ◌++◌, [], ℕ, List, true, length, IfOk, OnErr, OnOk};
 ghost use Rattle.pipe_base.specs.declared.name.NodeId.{NodeId};
-ghost use Rattle.pipe_base.specs.Graph.{Graph, ins_of};
+ghost use Rattle.pipe_graph.specs.Graph.{Graph, ins_of};
 ghost use Rattle.pipe_base.specs.Moment.{with_downed};
 ghost use Rattle.pipe_base.specs.Scattering.{SenderCall};
 ghost use Rattle.pipe_base.specs.Settled.{unsettled};
@@ -13,7 +13,8 @@ ghost use Rattle.pipe_model.specs.Sender.{sender_calls};
 ghost use Rattle.pipe_relsend.specs.Sending as sending;
 ghost use Rattle.pipe_host.specs.Buffers.{logged_by};
 ghost use Rattle.pipe_host.specs.Host.{Stands, Works};
-ghost use Rattle.pipe_host.specs.Steps.{beat, fields_ticked, ticked};
+ghost use Rattle.pipe_host.specs.Steps.{beat, fields_ticked};
+ghost use Rattle.pipe_model.specs.Records.{ticked};
 
 use crate::host::Host;
 use crate::times::deliver;
@@ -29,7 +30,8 @@ impl Host {
     /// in-link that is down then and not dropped, how many failed hosts are noted, unless something is being recalled, and how
     /// many links are known as dropped.
     pub fn work_tick(&self, now: Ts) -> Result<KeptStep, NoMemory>
-        ensures { IfOk result (λ step. (graph : Graph) (node : NodeId) (own : List Record) → Stands graph node.0 own self.now
+        ensures { IfOk result (λ step. (graph : Graph) (node : NodeId) (own : List Record)
+            → Stands graph node.0 own self.now
             → Works graph node.0 own (ticked node now step) self.now) }
     {
         let downed = self.links.silent_marks(self.alloc, now)?;
@@ -43,7 +45,8 @@ impl Host {
 
     /// Whether these barriers let nothing out and nothing is to be put again.
     fn is_at_rest(&self, barriers: Barriers) -> bool
-        ensures settled { result ≡ true → (calls : List SenderCall) → sending.Stands calls self.now.sender → length (unsettled calls) ≡ 0 }
+        ensures settled { result ≡ true → (calls : List SenderCall) → sending.Stands calls self.now.sender
+            → length (unsettled calls) ≡ 0 }
         ensures quiet { result ≡ true → logged_by barriers self.now.held ≡ [] }
     {
         self.sender.unsettled() == 0 && !self.held.has_below(barriers)
@@ -51,7 +54,8 @@ impl Host {
 
     /// The step of a tick that leads to beacons alone. It takes no step in lists.
     fn beat(&self, now: Ts) -> Result<KeptStep, NoMemory>
-        ensures { IfOk result (λ step. (graph : Graph) (node : NodeId) (own : List Record) → Stands graph node.0 own self.now → length (unsettled (sender_calls graph node.0 own)) ≡ 0
+        ensures { IfOk result (λ step. (graph : Graph) (node : NodeId) (own : List Record)
+            → Stands graph node.0 own self.now → length (unsettled (sender_calls graph node.0 own)) ≡ 0
             → step ≡ beat graph node.0 own (fields_ticked graph node.0 own now []) [] [] []) }
     {
         let mut clock = self.clock;
@@ -69,7 +73,8 @@ impl Host {
         told: AddressedList,
         barriers: Barriers,
     ) -> Result<KeptStep, NoMemory>
-        ensures { IfOk result (λ step. (graph : Graph) (node : NodeId) (own : List Record) → Stands graph node.0 own self.now
+        ensures { IfOk result (λ step. (graph : Graph) (node : NodeId) (own : List Record)
+            → Stands graph node.0 own self.now
             → step ≡ beat graph node.0 own (fields_ticked graph node.0 own now (logged_by barriers self.now.held)) downed told (logged_by barriers self.now.held)) }
     {
         let mut step = Step::new(self.alloc);
@@ -92,7 +97,7 @@ impl Host {
     /// What the controller is told at a tick that takes these links down.
     fn told(&self, marks: &DownList) -> Result<AddressedList, NoMemory>
         ensures { IfOk result (λ told. (graph : Graph) (node : ℕ) (own : List Record) → Stands graph node own self.now
-            → told ≡ (downs (ins_of graph node) (with_downed marks.now (moments_of own)) ++ done_told graph node own) ++ gone_told node own) }
+            → told ≡ (downs (ins_of graph node) (with_downed marks.now (moments_of graph node own)) ++ done_told graph node own) ++ gone_told node own) }
     {
         let mut told = self.links.downs_with(self.alloc, marks)?;
         self.tell_done(&mut told)?;

@@ -4,8 +4,9 @@ use Rattle.std.specs.Option.{option_map}
 use Rattle.pipe_base.specs.declared.name.LinkId.{LinkId}
 use Rattle.pipe_base.specs.declared.name.Ts.{Ts}
 use Rattle.pipe_base.specs.declared.packet.Packet.{Packet}
-use Rattle.pipe_base.specs.Graph.{Graph, ins_of}
-use Rattle.pipe_base.specs.Moment.{Moment, Received, with_downed, with_dropped}
+use Rattle.pipe_graph.specs.Graph.{Graph, ins_of}
+use Rattle.pipe_base.specs.Moment.{Moment, Received, with_downed}
+use Rattle.pipe_base.specs.Entries.{with_entries}
 use Rattle.pipe_base.specs.Silence.{QuietCall, Took, Ticked}
 use Rattle.pipe_barrier.specs.declared.in_links.InLinks.{InLinks}
 use Rattle.pipe_barrier.specs.InLinks as in_links
@@ -29,41 +30,41 @@ pub none_from : (o : Option (ℕ × Packet)) → None ≡ option_map receipt_of 
 none_from None is = refl
 none_from (Some q) is = cc
 
-stand_for : (graph : Graph) (node : ℕ) (own : List Record) (r : Record) (k : InLinks) (moments : List Moment) (calls : List QuietCall) → moments_of (r ∷ own) ≡ moments → quiet_calls (r ∷ own) ≡ calls
+stand_for : (graph : Graph) (node : ℕ) (own : List Record) (r : Record) (k : InLinks) (moments : List Moment) (calls : List QuietCall) → moments_of graph node (r ∷ own) ≡ moments → quiet_calls graph node (r ∷ own) ≡ calls
     → in_links.Stands (ins_of graph node) graph.patience k moments calls → InsStand graph node (r ∷ own) k
 stand_for graph node own r k moments calls moments_are calls_are stands =
-    subst (λ (ms : List Moment). in_links.Stands (ins_of graph node) graph.patience k ms (quiet_calls (r ∷ own))) (sym moments_are)
+    subst (λ (ms : List Moment). in_links.Stands (ins_of graph node) graph.patience k ms (quiet_calls graph node (r ∷ own))) (sym moments_are)
     (subst (λ (cs : List QuietCall). in_links.Stands (ins_of graph node) graph.patience k moments cs) (sym calls_are) stands)
 
 -- a record that received a packet
 pub received_follows : (graph : Graph) (node : ℕ) (own : List Record) (r : Record) (q : ℕ × Packet) (x : Receipt) (k : InLinks) → IsNodeStep graph node own r
-    → received own r ≡ Some q → x ≡ receipt_of q
-    → in_links.Stands (ins_of graph node) graph.patience k (Received x.link.0 x.be.0 x.commit.0 ∷ moments_of own) (Took x.link.0 ∷ quiet_calls own)
+    → received graph node own r ≡ Some q → x ≡ receipt_of q
+    → in_links.Stands (ins_of graph node) graph.patience k (Received x.link.0 x.be.0 x.commit.0 ∷ moments_of graph node own) (Took x.link.0 ∷ quiet_calls graph node own)
     → InsStand graph node (r ∷ own) k
 received_follows graph node own r q x k step is same stands =
-    stand_for graph node own r k (Received x.link.0 x.be.0 x.commit.0 ∷ moments_of own) (Took x.link.0 ∷ quiet_calls own)
+    stand_for graph node own r k (Received x.link.0 x.be.0 x.commit.0 ∷ moments_of graph node own) (Took x.link.0 ∷ quiet_calls graph node own)
     (moments_received graph node own r q step is
-    ∙ ap (λ (y : Receipt). Received y.link.0 y.be.0 y.commit.0 ∷ moments_of own) (sym same))
-    (let calls : quiet_calls (r ∷ own) ≡ Took q.0 ∷ quiet_calls own = rw is refl in
-    calls ∙ ap (λ (y : Receipt). Took y.link.0 ∷ quiet_calls own) (sym same))
+    ∙ ap (λ (y : Receipt). Received y.link.0 y.be.0 y.commit.0 ∷ moments_of graph node own) (sym same))
+    (let calls : quiet_calls graph node (r ∷ own) ≡ Took q.0 ∷ quiet_calls graph node own = rw is refl in
+    calls ∙ ap (λ (y : Receipt). Took y.link.0 ∷ quiet_calls graph node own) (sym same))
     stands
 
 -- a tick
 pub tick_follows : (graph : Graph) (node : ℕ) (own : List Record) (r : Record) (now : Ts) (k : InLinks) → IsNodeStep graph node own r
-    → received own r ≡ None → tick_of r.event ≡ Some now
-    → in_links.Stands (ins_of graph node) graph.patience k (with_downed r.step.downed (moments_of own)) (Ticked now.0 ∷ quiet_calls own)
+    → received graph node own r ≡ None → tick_of r.event ≡ Some now
+    → in_links.Stands (ins_of graph node) graph.patience k (with_downed r.step.downed (moments_of graph node own)) (Ticked now.0 ∷ quiet_calls graph node own)
     → InsStand graph node (r ∷ own) k
 tick_follows graph node own r now k step none is stands =
-    stand_for graph node own r k (with_downed r.step.downed (moments_of own)) (Ticked now.0 ∷ quiet_calls own)
-    (moments_downed own r none (step.dropped_is ∙ tick_drops_nothing graph node own r now is)) (rw (none, is) refl) stands
+    stand_for graph node own r k (with_downed r.step.downed (moments_of graph node own)) (Ticked now.0 ∷ quiet_calls graph node own)
+    (moments_downed graph node own r none (step.dropped_is ∙ tick_drops_nothing graph node own r now is)) (rw (none, is) refl) stands
 
 -- a record that neither receives nor ticks
-pub marks_follow : (graph : Graph) (node : ℕ) (own : List Record) (r : Record) (k : InLinks) → received own r ≡ None → None ≡ tick_of r.event
-    → in_links.Stands (ins_of graph node) graph.patience k (with_dropped r.step.dropped (with_downed r.step.downed (moments_of own))) (quiet_calls own)
+pub marks_follow : (graph : Graph) (node : ℕ) (own : List Record) (r : Record) (k : InLinks) → received graph node own r ≡ None → None ≡ tick_of r.event
+    → in_links.Stands (ins_of graph node) graph.patience k (with_entries (ins_of graph node) r.step.dropped (with_downed r.step.downed (moments_of graph node own))) (quiet_calls graph node own)
     → InsStand graph node (r ∷ own) k
 marks_follow graph node own r k none other stands =
     let no_tick : tick_of r.event ≡ None = sym other in
-    stand_for graph node own r k (with_dropped r.step.dropped (with_downed r.step.downed (moments_of own))) (quiet_calls own) (moments_marked own r none)
+    stand_for graph node own r k (with_entries (ins_of graph node) r.step.dropped (with_downed r.step.downed (moments_of graph node own))) (quiet_calls graph node own) (moments_marked graph node own r none)
     (rw (none, no_tick) refl) stands
 
 -- ---- the ways

@@ -8,9 +8,9 @@ use Rattle.pipe_base.specs.declared.name.LinkId.{LinkId}
 use Rattle.pipe_base.specs.declared.name.Ts.{Ts}
 use Rattle.pipe_base.specs.declared.packet.Plane.TheVariants.{Commit}
 use Rattle.pipe_base.specs.Barrier.{register}
-use Rattle.pipe_base.specs.Graph.{Graph, ins_of}
-use Rattle.pipe_base.specs.Moment.{Moment, is_kept, is_up}
-use Rattle.pipe_base.specs.ShortestRoute.{not_dropped}
+use Rattle.pipe_graph.specs.Graph.{Graph, ins_of}
+use Rattle.pipe_base.specs.Moment.{Moment, is_retained, is_up}
+use Rattle.pipe_graph.specs.Passable.{not_dropped}
 use Rattle.pipe_barrier.specs.Register.{register_of, told_of}
 use Rattle.pipe_barrier.specs.Registers.{downs, is_down}
 use Rattle.pipe_model.specs.declared.record.Record.{Record}
@@ -30,7 +30,7 @@ told_first true true l value all each ls ms all_is each_is rest = rest ∙ ap (�
 told_first true false l value all each ls ms all_is each_is rest =
     ap₂ (λ (a : Addressed) (bs : List Addressed). a ∷ bs) all_is rest ∙ ap (λ (bs : List Addressed). bs ++ flat_map each ms) (sym each_is)
 
-told_same : (moments : List Moment) (drops : List LinkId) → ((link : ℕ) → is_kept moments link ≡ not_dropped drops link) → (ins : List LinkId)
+told_same : (moments : List Moment) (drops : List LinkId) → ((link : ℕ) → is_retained moments link ≡ not_dropped drops link) → (ins : List LinkId)
     → downs ins moments ≡ flat_map (λ l. down_told l (frozen_at moments l.0)) (filter (λ l. not_dropped drops l.0) ins)
 told_same moments drops kept [] = refl
 told_same moments drops kept (l ∷ ls) =
@@ -42,7 +42,7 @@ told_same moments drops kept (l ∷ ls) =
 
 -- After a record that takes down what it is to, the registers tell of the marks.
 pub tells_marks : (graph : Graph) (node : ℕ) (own : List Record) (r : Record) → IsNodeHistory graph node own → r.step.downed ≡ downed graph node own r
-    → downs (ins_of graph node) (moments_of (r ∷ own)) ≡ downs_told graph node (r ∷ own)
+    → downs (ins_of graph node) (moments_of graph node (r ∷ own)) ≡ downs_told graph node (r ∷ own)
 tells_marks graph node own r history downed_is =
-    let after : AreMarked (r ∷ own) = λ link. mark_follows graph node own r link downed_is (marked graph node own history link) in
-    told_same (moments_of (r ∷ own)) (known_drops (r ∷ own)) (kept_by_drops (r ∷ own)) (ins_of graph node) ∙ sym (downs_at graph node (r ∷ own) after)
+    let after : AreMarked graph node (r ∷ own) = λ link. mark_follows graph node own r link downed_is (marked graph node own history link) in
+    told_same (moments_of graph node (r ∷ own)) (known_drops (r ∷ own)) (kept_by_drops graph node (r ∷ own)) (ins_of graph node) ∙ sym (downs_at graph node (r ∷ own) after)

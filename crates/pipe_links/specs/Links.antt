@@ -4,7 +4,7 @@ use Rattle.pipe_base.specs.declared.packet.Packet.{Packet}
 use Rattle.pipe_base.specs.declared.packet.Plane.TheVariants as plane
 use Rattle.pipe_base.specs.declared.step.Outcome.{Outcome}
 use Rattle.pipe_base.specs.declared.step.Outcome.TheVariants.{Ignored}
-use Rattle.pipe_base.specs.Graph.{Graph, ins_of}
+use Rattle.pipe_graph.specs.Graph.{Graph, ins_of}
 use Rattle.pipe_barrier.specs.declared.in_links.InLinks.{InLinks}
 use Rattle.pipe_barrier.specs.declared.registers.Barriers.{Barriers}
 use Rattle.pipe_barrier.specs.InLinks as in_links
@@ -18,7 +18,8 @@ use Rattle.pipe_links.specs.Ways.{AreWays}
 
 -- what is kept of the in-links is what the rules say after the node's own records
 abbrev pub InsStand : Graph → ℕ → List Record → InLinks → Type 0
-InsStand graph node own k = in_links.Stands (ins_of graph node) graph.patience k (moments_of own) (quiet_calls own)
+InsStand graph node own k =
+    in_links.Stands (ins_of graph node) graph.patience k (moments_of graph node own) (quiet_calls graph node own)
 
 -- What is kept of a node's links is what the rules say after the node's own records, each of which is what the node owes.
 pub record Stands (graph : Graph) (node : ℕ) (own : List Record) (k : Links) : Type 0 where

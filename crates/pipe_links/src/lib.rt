@@ -2,10 +2,8 @@
 //! their silence, those that go out, the ways by them, and which links the node knows as dropped.
 #![tactic(auto)]
 
-mod known;
 mod links;
 mod ways;
 
-pub use known::Known;
 pub use links::Links;
 pub use ways::Ways;

@@ -1,10 +1,11 @@
 // The links of one node.
 ghost use Rattle.std.specs.Prelude.{◌≡◌, ◌&&◌, ◌∷◌, ◌++◌, ◌<◌, [], ℕ, List, None, true, unwrap_or, IfOk, OnErr, OnOk};
 ghost use Rattle.std.specs.Option.{option_map};
-ghost use Rattle.pipe_base.specs.Graph.{Graph, ins_of};
-ghost use Rattle.pipe_base.specs.Moment.{Received, has_link, is_up, with_downed, with_dropped};
+ghost use Rattle.pipe_graph.specs.Graph.{Graph, ins_of};
+ghost use Rattle.pipe_base.specs.Moment.{Received, has_link, is_up, with_downed};
+ghost use Rattle.pipe_base.specs.Entries.{with_entries};
 ghost use Rattle.pipe_base.specs.Moment as moment;
-ghost use Rattle.pipe_base.specs.ShortestRoute.{route};
+ghost use Rattle.pipe_graph.specs.ShortestRoute.{route};
 ghost use Rattle.pipe_base.specs.Silence.{silent_marks};
 ghost use Rattle.pipe_base.specs.Step.{quiet_step};
 ghost use Rattle.pipe_base.specs.Ways.{PutsAlone, with_beacons, with_ways};
@@ -19,12 +20,11 @@ ghost use Rattle.pipe_model.specs.Run.{IsNodeStep};
 ghost use Rattle.pipe_links.specs.Links.{AreBarriersAt, InsStand, Stands, StandsWith, is_ignored, next_ways, receipt_of};
 ghost use Rattle.pipe_links.specs.Ways.{AreWays};
 
-use crate::known::Known;
 use crate::ways::Ways;
 use pipe_barrier::{Barriers, InLinks, Registers};
 use pipe_base::{
     Addressed, AddressedList, Control, DownList, KeptStep, LinkId, LinkList, List, NoMemory,
-    NodeId, Outcome, Packet, Step, To, Ts,
+    NodeId, Outcome, Packet, Step, To, Told, Ts,
 };
 use pipe_model::{Event, Record, Took};
 use pipe_route::Routes;
@@ -60,7 +60,7 @@ impl Links {
         Ok(Links {
             node,
             ins: InLinks::new(alloc, topology.ins(node), topology.patience())?,
-            ways: Ways::new(alloc, topology, node, Known::none(alloc))?,
+            ways: Ways::new(alloc, topology, node, Told::new(alloc))?,
             ahead: None,
         })
     }
@@ -82,7 +82,7 @@ impl Links {
     pub fn registers(&self) -> &Registers
         ensures value { result.now ≡ self.now.ins.registers }
         ensures stands { (graph : Graph) (node : ℕ) (own : List ARecord) → Stands graph node own self.now
-            → registers.Stands (ins_of graph node) result.now (moments_of own) }
+            → registers.Stands (ins_of graph node) result.now (moments_of graph node own) }
     {
         self.ins.registers()
     }
@@ -90,7 +90,7 @@ impl Links {
     /// Whether the link is an in-link that is up.
     pub fn is_up(&self, link: LinkId) -> bool
         ensures { (graph : Graph) (node : ℕ) (own : List ARecord) → Stands graph node own self.now
-            → result ≡ (has_link link.0 (ins_of graph node) && is_up (moments_of own) link.0) }
+            → result ≡ (has_link link.0 (ins_of graph node) && is_up (moments_of graph node own) link.0) }
     {
         self.ins.is_up(link)
     }
@@ -99,7 +99,8 @@ impl Links {
     pub fn barriers(&self) -> Barriers
         ensures be { result.be.0 ≡ self.now.ins.registers.be }
         ensures commit { result.commit.0 ≡ self.now.ins.registers.commit }
-        ensures are { (graph : Graph) (node : ℕ) (own : List ARecord) → Stands graph node own self.now → AreBarriersAt graph node own result }
+        ensures are { (graph : Graph) (node : ℕ) (own : List ARecord) → Stands graph node own self.now
+            → AreBarriersAt graph node own result }
     {
         self.ins.barriers()
     }
@@ -107,7 +108,7 @@ impl Links {
     /// The barriers that a packet received on the link would lead to.
     pub fn barriers_with(&self, link: LinkId, packet: &Packet) -> Barriers
         ensures { (graph : Graph) (node : ℕ) (own : List ARecord) → Stands graph node own self.now
-            → AreBarriers (ins_of graph node) (Received link.0 packet.now.be.0 packet.now.commit.0 ∷ moments_of own) result }
+            → AreBarriers (ins_of graph node) (Received link.0 packet.now.be.0 packet.now.commit.0 ∷ moments_of graph node own) result }
     {
         self.ins.barriers_with(link, packet.be, packet.commit)
     }
@@ -115,7 +116,7 @@ impl Links {
     /// The in-links that go down at a tick that reads `now`, each with its frozen value.
     pub fn silent_marks(&self, alloc: Global, now: Ts) -> Result<DownList, NoMemory>
         ensures { IfOk result (λ marks. (graph : Graph) (node : ℕ) (own : List ARecord) → Stands graph node own self.now
-            → marks ≡ silent_marks graph.patience (ins_of graph node) (moments_of own) (quiet_calls own) now.0) }
+            → marks ≡ silent_marks graph.patience (ins_of graph node) (moments_of graph node own) (quiet_calls graph node own) now.0) }
     {
         self.ins.silent_marks(alloc, now)
     }
@@ -124,7 +125,7 @@ impl Links {
     /// in-link that is up.
     pub fn told_marks(&self, alloc: Global, control: &Control) -> Result<DownList, NoMemory>
         ensures { IfOk result (λ marks. (graph : Graph) (node : ℕ) (own : List ARecord) → Stands graph node own self.now
-            → marks ≡ told_marks (ins_of graph node) (moments_of own) control.now) }
+            → marks ≡ told_marks (ins_of graph node) (moments_of graph node own) control.now) }
     {
         match control {
             Control::Freeze { link } => self.mark_if_up(alloc, *link),
@@ -135,7 +136,7 @@ impl Links {
     /// The link with its frozen value, where it is an in-link that is up.
     fn mark_if_up(&self, alloc: Global, link: LinkId) -> Result<DownList, NoMemory>
         ensures { IfOk result (λ marks. (graph : Graph) (node : ℕ) (own : List ARecord) → Stands graph node own self.now
-            → marks ≡ told_marks (ins_of graph node) (moments_of own) (Control.Freeze link)) }
+            → marks ≡ told_marks (ins_of graph node) (moments_of graph node own) (Control.Freeze link)) }
     {
         let mut marks = DownList::new(alloc);
         if self.is_up(link) {
@@ -150,7 +151,10 @@ impl Links {
             → drops ≡ told_drops (known_drops own) control.now) }
     {
         match control {
-            Control::DropLinks { links } => self.ways.known.news(alloc, links),
+            Control::DropLinks { links } => {
+                let news = self.ways.known.news(links.as_slice());
+                Ok(List::from_vec(news.to_vec(alloc)?))
+            }
             _ => Ok(List::new(alloc)),
         }
     }
@@ -170,7 +174,7 @@ impl Links {
         if drops.is_empty() {
             return Ok(None);
         }
-        let known = self.ways.known.with(drops)?;
+        let known = self.ways.known.with(drops.as_slice())?;
         Ok(Some(Ways::new(alloc, topology, self.node, known)?))
     }
 
@@ -183,16 +187,18 @@ impl Links {
 
     /// The barriers after some links have gone down and then others were dropped, one after the other.
     pub fn barriers_after(&self, marks: &DownList, drops: &LinkList) -> Result<Barriers, NoMemory>
-        ensures { IfOk result (λ barriers. (graph : Graph) (node : ℕ) (own : List ARecord) → Stands graph node own self.now
-            → AreBarriers (ins_of graph node) (with_dropped drops.now (with_downed marks.now (moments_of own))) barriers) }
+        ensures { IfOk result (λ barriers. (graph : Graph) (node : ℕ) (own : List ARecord)
+            → Stands graph node own self.now
+            → AreBarriers (ins_of graph node) (with_entries (ins_of graph node) drops.now (with_downed marks.now (moments_of graph node own))) barriers) }
     {
         self.ins.barriers_after(marks, drops)
     }
 
     /// The barriers after these links have gone down, one after the other.
     pub fn barriers_without(&self, marks: &DownList) -> Result<Barriers, NoMemory>
-        ensures { IfOk result (λ barriers. (graph : Graph) (node : ℕ) (own : List ARecord) → Stands graph node own self.now
-            → AreBarriers (ins_of graph node) (with_downed marks.now (moments_of own)) barriers) }
+        ensures { IfOk result (λ barriers. (graph : Graph) (node : ℕ) (own : List ARecord)
+            → Stands graph node own self.now
+            → AreBarriers (ins_of graph node) (with_downed marks.now (moments_of graph node own)) barriers) }
     {
         self.ins.barriers_without(marks)
     }
@@ -201,7 +207,7 @@ impl Links {
     /// too, its frozen value.
     pub fn downs_with(&self, alloc: Global, marks: &DownList) -> Result<AddressedList, NoMemory>
         ensures { IfOk result (λ told. (graph : Graph) (node : ℕ) (own : List ARecord) → Stands graph node own self.now
-            → told ≡ downs (ins_of graph node) (with_downed marks.now (moments_of own))) }
+            → told ≡ downs (ins_of graph node) (with_downed marks.now (moments_of graph node own))) }
     {
         self.ins.downs_with(alloc, marks)
     }
@@ -267,7 +273,8 @@ impl Links {
 
     /// Takes over what a record of the node's own did to its links. Takes no memory.
     pub fn follow(&mut self, made: &Record)
-        ensures { (graph : Graph) (node : ℕ) (own : List ARecord) → StandsWith graph node own made.now self.old → ComesIn graph node made.now.event
+        ensures { (graph : Graph) (node : ℕ) (own : List ARecord) → StandsWith graph node own made.now self.old
+            → ComesIn graph node made.now.event
             → IsNodeStep graph node own made.now → Stands graph node (made.now ∷ own) self.new }
     {
         follow(&mut self.ins, made);
@@ -306,7 +313,8 @@ impl Links {
 
 /// Takes over what a record did to the in-links.
 fn follow(ins: &mut InLinks, made: &Record)
-    ensures { (graph : Graph) (node : ℕ) (own : List ARecord) → InsStand graph node own ins.old → ComesIn graph node made.now.event
+    ensures { (graph : Graph) (node : ℕ) (own : List ARecord) → InsStand graph node own ins.old
+        → ComesIn graph node made.now.event
         → IsNodeStep graph node own made.now → InsStand graph node (made.now ∷ own) ins.new }
 {
     match received(made) {
@@ -323,7 +331,8 @@ fn follow(ins: &mut InLinks, made: &Record)
 
 /// What the record received: a packet that was taken from a link that is up. On any other link the packet is ignored.
 fn received(made: &Record) -> Option<Receipt>
-    ensures { (graph : Graph) (node : ℕ) (own : List ARecord) → IsNodeStep graph node own made.now → result ≡ option_map receipt_of (received own made.now) }
+    ensures { (graph : Graph) (node : ℕ) (own : List ARecord) → IsNodeStep graph node own made.now
+        → result ≡ option_map receipt_of (received graph node own made.now) }
 {
     let Event::Take { link, .. } = &made.event else {
         return None;

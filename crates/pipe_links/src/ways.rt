@@ -3,8 +3,7 @@ ghost use Rattle.std.specs.Prelude.{◌≡◌, ◌<◌, length, filter, All, IfO
 ghost use Rattle.pipe_topo.specs.Sets.{lacks};
 ghost use Rattle.pipe_links.specs.Ways.{AreWays, IsSetOf};
 
-use crate::known::Known;
-use pipe_base::{LinkId, LinkList, List, NoMemory, NodeId};
+use pipe_base::{LinkId, LinkList, List, NoMemory, NodeId, Told};
 use pipe_route::Routes;
 use pipe_topo::{LinkSet, Topology};
 use std::alloc::Global;
@@ -12,7 +11,7 @@ use std::alloc::Global;
 /// Which links a node knows as dropped, and by that on which links it puts packets.
 #[derive(Clone, Drop)]
 pub struct Ways {
-    pub(crate) known: Known,
+    pub(crate) known: Told<LinkId>,
     /// The links out of the node that are not known as dropped.
     pub(crate) outs: LinkList,
     pub(crate) routes: Routes,
@@ -24,7 +23,7 @@ impl Ways {
         alloc: Global,
         topology: &Topology,
         node: NodeId,
-        known: Known,
+        known: Told<LinkId>,
     ) -> Result<Ways, NoMemory>
         requires { node.0 < topology.now.nodes }
         ensures { IfOk result (AreWays topology.now node.0 known) }

@@ -7,7 +7,7 @@ use Rattle.pipe_base.specs.declared.name.HostId.{HostId}
 use Rattle.pipe_base.specs.declared.name.LinkId.{LinkId}
 use Rattle.pipe_base.specs.declared.name.NodeId.{NodeId}
 use Rattle.pipe_base.specs.declared.step.Outcome.{Outcome}
-use Rattle.pipe_base.specs.Graph.{Graph, all_links}
+use Rattle.pipe_graph.specs.Graph.{Graph, all_links}
 use Rattle.pipe_model.specs.declared.event.Event.{Event}
 use Rattle.pipe_model.specs.declared.event.Event.TheVariants.{Decide}
 use Rattle.pipe_model.specs.declared.record.Took.{Took}
@@ -32,7 +32,7 @@ messages_each P graph v frozen told gone =
 
 -- the notices and lists are those of what the controller knows after the record
 pub nobodys_control : (P : Addressed → Type 0) (graph : Graph) (v : View) (event : Event) (took : Took) (outcome : Outcome) → ((l : LinkId) → P (freeze graph l))
-    → ((h : HostId) → P (notice (after_event graph event took v) h)) → ((n : NodeId) → P (drop_links (after_event graph event took v) n))
+    → ((h : HostId) → P (notice (after_event graph event took outcome v) h)) → ((n : NodeId) → P (drop_links (after_event graph event took outcome v) n))
     → All P (nobodys_step graph v event outcome).control
 nobodys_control P graph v Decide took outcome frozen told gone = messages_each P graph (after_decision graph v) frozen told gone
 nobodys_control P graph v _ took outcome frozen told gone = All-nil P

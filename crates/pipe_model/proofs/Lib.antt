@@ -1,3 +1,4 @@
+pub mod Collecting
 pub mod Decisions
 pub mod Downs
 pub mod Entries

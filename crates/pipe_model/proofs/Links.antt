@@ -5,9 +5,11 @@ use Rattle.std.proofs.lemmas.List.Elements.{All-head, All-tail, All-filter, All-
 use Rattle.std.proofs.lemmas.List.Folds.{list_any_at}
 use Rattle.std.proofs.lemmas.List.FromFn.{get_or-map-range_with_len, length-map-range_with_len}
 use Rattle.pipe_base.specs.declared.name.LinkId.{LinkId}
-use Rattle.pipe_base.specs.Graph.{Graph, all_links, head_of, ins_of, is_host, link_id, outs_of, tail_of}
+use Rattle.pipe_graph.specs.Graph.{Graph, all_links, head_of, ins_of, is_host, link_id, outs_of, tail_of}
 use Rattle.pipe_base.specs.Moment.{has_link}
-use Rattle.pipe_base.specs.ShortestRoute.{begins_shortest, firsts_of, in_turn, not_dropped, route}
+use Rattle.pipe_graph.specs.ShortestRoute.{begins_shortest, firsts_of, route}
+use Rattle.pipe_graph.specs.Passable.{is_passable}
+use Rattle.pipe_base.specs.Ways.{in_turn}
 use Rattle.pipe_base.proofs.BarrierLaws.{filter-among}
 
 -- a link of the network is among those into its head
@@ -55,5 +57,5 @@ routed_out false P ls turn l all is = cc
 -- a route leads out of its node
 pub route_goes_out : (graph : Graph) (dropped : List LinkId) (node src dst : ℕ) (l : LinkId) → route graph dropped node src dst ≡ Some l → GoesOut graph node l
 route_goes_out graph dropped node src dst l is =
-    routed_out (is_host graph dst) (GoesOut graph node) (firsts_of graph (not_dropped dropped) node dst) (src + dst) l
-    (All-filter (λ (m : LinkId). begins_shortest graph (not_dropped dropped) node dst m.0) (GoesOut graph node) (outs_of graph node) (outs_go_out graph node)) is
+    routed_out (is_host graph dst) (GoesOut graph node) (firsts_of graph (is_passable graph dropped) node dst) (src + dst) l
+    (All-filter (λ (m : LinkId). begins_shortest graph (is_passable graph dropped) node dst m.0) (GoesOut graph node) (outs_of graph node) (outs_go_out graph node)) is

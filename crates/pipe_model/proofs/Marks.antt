@@ -13,8 +13,9 @@ use Rattle.pipe_base.specs.declared.packet.Packet.{Packet}
 use Rattle.pipe_base.specs.declared.packet.Plane.{Plane}
 use Rattle.pipe_base.specs.declared.packet.Plane.TheVariants.{Commit}
 use Rattle.pipe_base.specs.Barrier.{register}
-use Rattle.pipe_base.specs.Graph.{Graph, ins_of}
-use Rattle.pipe_base.specs.Moment.{Moment, WentDown, Dropped, has_link, is_kept, is_up, keeps_links, with_received, with_downed, with_dropped}
+use Rattle.pipe_graph.specs.Graph.{Graph, ins_of}
+use Rattle.pipe_base.specs.Moment.{Moment, WentDown, Dropped, has_link, is_retained, is_up, keeps_links, with_received, with_downed}
+use Rattle.pipe_base.specs.Entries.{with_entries}
 use Rattle.pipe_base.specs.Silence.{goes_down, mark_of}
 use Rattle.pipe_model.specs.declared.event.Event.{Event}
 use Rattle.pipe_model.specs.declared.event.Event.TheVariants.{ControlTake, Take, Tick}
@@ -32,9 +33,9 @@ pub register_downed : (plane : Plane) (ds : List (LinkId × Ts)) (past : List Mo
 register_downed plane [] past link = refl
 register_downed plane (d ∷ ds) past link = register_downed plane ds (WentDown d.0.0 ∷ past) link
 
-pub register_dropped : (plane : Plane) (ls : List LinkId) (past : List Moment) (link : ℕ) → register plane (with_dropped ls past) link ≡ register plane past link
-register_dropped plane [] past link = refl
-register_dropped plane (l ∷ ls) past link = register_dropped plane ls (Dropped l.0 ∷ past) link
+pub register_dropped : (ins : List LinkId) (plane : Plane) (ls : List LinkId) (past : List Moment) (link : ℕ) → register plane (with_entries ins ls past) link ≡ register plane past link
+register_dropped ins plane [] past link = refl
+register_dropped ins plane (l ∷ ls) past link = register_dropped ins plane ls (Dropped l.0 ∷ past) link
 
 -- ---- what it does to the use of a link
 
@@ -43,12 +44,12 @@ up_received looked None past link = refl
 up_received true (Some q) past link = refl
 up_received false (Some q) past link = refl
 
-pub kept_received : (looked : Bool) (o : Option (ℕ × Packet)) (past : List Moment) (link : ℕ) → is_kept (with_received looked o past) link ≡ is_kept past link
+pub kept_received : (looked : Bool) (o : Option (ℕ × Packet)) (past : List Moment) (link : ℕ) → is_retained (with_received looked o past) link ≡ is_retained past link
 kept_received looked None past link = refl
 kept_received true (Some q) past link = refl
 kept_received false (Some q) past link = refl
 
-pub kept_downed : (ds : List (LinkId × Ts)) (past : List Moment) (link : ℕ) → is_kept (with_downed ds past) link ≡ is_kept past link
+pub kept_downed : (ds : List (LinkId × Ts)) (past : List Moment) (link : ℕ) → is_retained (with_downed ds past) link ≡ is_retained past link
 kept_downed [] past link = refl
 kept_downed (d ∷ ds) past link = kept_downed ds (WentDown d.0.0 ∷ past) link
 
@@ -61,17 +62,17 @@ pub down_downed : (ds : List (LinkId × Ts)) (past : List Moment) (link : ℕ) �
 down_downed [] past link down = down
 down_downed (d ∷ ds) past link down = down_downed ds (WentDown d.0.0 ∷ past) link (stays_false (d.0.0 == link) (is_up past link) down)
 
-pub down_dropped : (ls : List LinkId) (past : List Moment) (link : ℕ) → is_up past link ≡ false → is_up (with_dropped ls past) link ≡ false
-down_dropped [] past link down = down
-down_dropped (l ∷ ls) past link down = down_dropped ls (Dropped l.0 ∷ past) link (stays_false (l.0 == link) (is_up past link) down)
+pub down_dropped : (ins : List LinkId) (ls : List LinkId) (past : List Moment) (link : ℕ) → is_up past link ≡ false → is_up (with_entries ins ls past) link ≡ false
+down_dropped ins [] past link down = down
+down_dropped ins (l ∷ ls) past link down = down_dropped ins ls (Dropped l.0 ∷ past) link (stays_false (l.0 == link) (is_up past link) down)
 
 -- a link that is not up is not up after a record
-pub down_still : (own : List Record) (r : Record) (link : ℕ) → is_up (moments_of own) link ≡ false → is_up (moments_of (r ∷ own)) link ≡ false
-down_still own r link down =
+pub down_still : (graph : Graph) (node : ℕ) (own : List Record) (r : Record) (link : ℕ) → is_up (moments_of graph node own) link ≡ false → is_up (moments_of graph node (r ∷ own)) link ≡ false
+down_still graph node own r link down =
     let looked : Bool = keeps_links r.step.downed r.step.dropped in
-    let received_too : List Moment = with_received looked (received own r) (moments_of own) in
-    down_dropped r.step.dropped (with_downed r.step.downed received_too) link
-    (down_downed r.step.downed received_too link (up_received looked (received own r) (moments_of own) link ∙ down))
+    let received_too : List Moment = with_received looked (received graph node own r) (moments_of graph node own) in
+    down_dropped (ins_of graph node) r.step.dropped (with_downed r.step.downed received_too) link
+    (down_downed r.step.downed received_too link (up_received looked (received graph node own r) (moments_of graph node own) link ∙ down))
 
 -- a link that is listed goes down, one that is not stays up
 abbrev pub beside : ℕ → List (LinkId × Ts) → Option Ts
@@ -100,15 +101,15 @@ before_drop : (b c : Bool) → (if b then false else c) ≡ true → (b ≡ fals
 before_drop true c is = cc
 before_drop false c is = (refl, is)
 
-kept_before : (ls : List LinkId) (past : List Moment) (link : ℕ) → is_kept (with_dropped ls past) link ≡ true → is_kept past link ≡ true
-kept_before [] past link kept = kept
-kept_before (l ∷ ls) past link kept = (before_drop (l.0 == link) (is_kept past link) (kept_before ls (Dropped l.0 ∷ past) link kept)).1
+kept_before : (ins : List LinkId) (ls : List LinkId) (past : List Moment) (link : ℕ) → is_retained (with_entries ins ls past) link ≡ true → is_retained past link ≡ true
+kept_before ins [] past link kept = kept
+kept_before ins (l ∷ ls) past link kept = (before_drop (l.0 == link) (is_retained past link) (kept_before ins ls (Dropped l.0 ∷ past) link kept)).1
 
-up_kept : (ls : List LinkId) (past : List Moment) (link : ℕ) → is_kept (with_dropped ls past) link ≡ true → is_up past link ≡ true → is_up (with_dropped ls past) link ≡ true
-up_kept [] past link kept up = up
-up_kept (l ∷ ls) past link kept up =
-    let other : (l.0 == link) ≡ false = (before_drop (l.0 == link) (is_kept past link) (kept_before ls (Dropped l.0 ∷ past) link kept)).0 in
-    up_kept ls (Dropped l.0 ∷ past) link kept (rw other up)
+up_kept : (ins : List LinkId) (ls : List LinkId) (past : List Moment) (link : ℕ) → is_retained (with_entries ins ls past) link ≡ true → is_up past link ≡ true → is_up (with_entries ins ls past) link ≡ true
+up_kept ins [] past link kept up = up
+up_kept ins (l ∷ ls) past link kept up =
+    let other : (l.0 == link) ≡ false = (before_drop (l.0 == link) (is_retained past link) (kept_before ins ls (Dropped l.0 ∷ past) link kept)).0 in
+    up_kept ins ls (Dropped l.0 ∷ past) link kept (rw other up)
 
 -- ---- what is received came on a link that is up
 
@@ -151,14 +152,14 @@ register_told ins moments (Freeze l) = by (has_link l.0 ins && is_up moments l.0
     by false = All-nil (IsRegister moments)
 register_told ins moments _ = All-nil (IsRegister moments)
 
-registers_by : (graph : Graph) (node : ℕ) (own : List Record) (event : Event) (took : Took) → All (IsRegister (moments_of own)) (downed_by graph node own event took)
+registers_by : (graph : Graph) (node : ℕ) (own : List Record) (event : Event) (took : Took) → All (IsRegister (moments_of graph node own)) (downed_by graph node own event took)
 registers_by graph node own (Tick n now) took =
-    All-map (IsRegister (moments_of own)) (mark_of (moments_of own)) (filter (goes_down graph.patience (moments_of own) (quiet_calls own) now.0) (ins_of graph node)) (λ k d lt. refl)
-registers_by graph node own (ControlTake place keep) (Message a) = register_told (ins_of graph node) (moments_of own) a.control
-registers_by graph node own _ _ = All-nil (IsRegister (moments_of own))
+    All-map (IsRegister (moments_of graph node own)) (mark_of (moments_of graph node own)) (filter (goes_down graph.patience (moments_of graph node own) (quiet_calls graph node own) now.0) (ins_of graph node)) (λ k d lt. refl)
+registers_by graph node own (ControlTake place keep) (Message a) = register_told (ins_of graph node) (moments_of graph node own) a.control
+registers_by graph node own _ _ = All-nil (IsRegister (moments_of graph node own))
 
 -- each link that goes down in a record goes with its commit register
-pub downed_registers : (graph : Graph) (node : ℕ) (own : List Record) (r : Record) → All (IsRegister (moments_of own)) (downed graph node own r)
+pub downed_registers : (graph : Graph) (node : ℕ) (own : List Record) (r : Record) → All (IsRegister (moments_of graph node own)) (downed graph node own r)
 downed_registers graph node own r = registers_by graph node own r.event r.took
 
 value_found : (moments : List Moment) (ds : List (LinkId × Ts)) (link : ℕ) (value : Ts) → All (IsRegister moments) ds → beside link ds ≡ Some value
@@ -195,47 +196,47 @@ mark_stays own r link value is = lookup_both link (marks own) r.step.downed ∙ 
 
 -- what the mark of a link says of it
 abbrev pub IsMarkedBy : List Moment → ℕ → Option Ts → Type 0
-IsMarkedBy moments link None = is_kept moments link ≡ true → is_up moments link ≡ true
+IsMarkedBy moments link None = is_retained moments link ≡ true → is_up moments link ≡ true
 IsMarkedBy moments link (Some value) = (is_up moments link ≡ false) × (register Commit moments link ≡ value.0)
 
 no_receipt : (o : Option (ℕ × Packet)) (ds : List (LinkId × Ts)) (link : ℕ) (value : Ts) → ((q : ℕ × Packet) → o ≡ Some q → ds ≡ []) → beside link ds ≡ Some value → o ≡ None
 no_receipt None ds link value apart is = refl
 no_receipt (Some q) ds link value apart is = let none : beside link ds ≡ None = ap (beside link) (apart q refl) in cc
 
-marked_by : (before : List Moment) (ds : List (LinkId × Ts)) (link : ℕ) (looked : Bool) (o : Option (ℕ × Packet)) (drops : List LinkId)
+marked_by : (ins : List LinkId) (before : List Moment) (ds : List (LinkId × Ts)) (link : ℕ) (looked : Bool) (o : Option (ℕ × Packet)) (drops : List LinkId)
     → ((q : ℕ × Packet) → o ≡ Some q → is_up before q.0 ≡ true) → ((q : ℕ × Packet) → o ≡ Some q → ds ≡ []) → All (IsRegister before) ds
     → (old new : Option Ts) → beside link ds ≡ new → IsMarkedBy before link old
-    → IsMarkedBy (with_dropped drops (with_downed ds (with_received looked o before))) link (option_or old new)
-marked_by before ds link looked o drops up apart registers (Some value) new found old =
+    → IsMarkedBy (with_entries ins drops (with_downed ds (with_received looked o before))) link (option_or old new)
+marked_by ins before ds link looked o drops up apart registers (Some value) new found old =
     let received : List Moment = with_received looked o before in (
-      down_dropped drops (with_downed ds received) link (down_downed ds received link (up_received looked o before link ∙ old.0)),
-      register_dropped Commit drops (with_downed ds received) link ∙ register_downed Commit ds received link ∙ register_still looked o before link up old.0 ∙ old.1,
+      down_dropped ins drops (with_downed ds received) link (down_downed ds received link (up_received looked o before link ∙ old.0)),
+      register_dropped ins Commit drops (with_downed ds received) link ∙ register_downed Commit ds received link ∙ register_still looked o before link up old.0 ∙ old.1,
     )
-marked_by before ds link looked o drops up apart registers None (Some value) found old =
+marked_by ins before ds link looked o drops up apart registers None (Some value) found old =
     let received : List Moment = with_received looked o before in
     let none : o ≡ None = no_receipt o ds link value apart found in (
-      down_dropped drops (with_downed ds received) link (down_marked ds received link value found),
-      register_dropped Commit drops (with_downed ds received) link ∙ register_downed Commit ds received link
+      down_dropped ins drops (with_downed ds received) link (down_marked ds received link value found),
+      register_dropped ins Commit drops (with_downed ds received) link ∙ register_downed Commit ds received link
           ∙ ap (λ (x : Option (ℕ × Packet)). register Commit (with_received looked x before) link) none ∙ value_found before ds link value registers found,
     )
-marked_by before ds link looked o drops up apart registers None None found old =
+marked_by ins before ds link looked o drops up apart registers None None found old =
     λ kept.
     let received : List Moment = with_received looked o before in
-    let kept_then : is_kept before link ≡ true = sym (kept_downed ds received link ∙ kept_received looked o before link) ∙ kept_before drops (with_downed ds received) link kept in
-    up_kept drops (with_downed ds received) link kept (up_unmarked ds received link found (up_received looked o before link ∙ old kept_then))
+    let kept_then : is_retained before link ≡ true = sym (kept_downed ds received link ∙ kept_received looked o before link) ∙ kept_before ins drops (with_downed ds received) link kept in
+    up_kept ins drops (with_downed ds received) link kept (up_unmarked ds received link found (up_received looked o before link ∙ old kept_then))
 
 -- what the mark of a link says of it after a record, where it said so before: it's enough that the record takes down what it is to
 pub mark_follows : (graph : Graph) (node : ℕ) (own : List Record) (r : Record) (link : ℕ) → r.step.downed ≡ downed graph node own r
-    → IsMarkedBy (moments_of own) link (mark own link) → IsMarkedBy (moments_of (r ∷ own)) link (mark (r ∷ own) link)
+    → IsMarkedBy (moments_of graph node own) link (mark own link) → IsMarkedBy (moments_of graph node (r ∷ own)) link (mark (r ∷ own) link)
 mark_follows graph node own r link downed_is before =
     let ds : List (LinkId × Ts) = r.step.downed in
-    subst (IsMarkedBy (moments_of (r ∷ own)) link) (sym (lookup_both link (marks own) ds))
-    (marked_by (moments_of own) ds link (keeps_links ds r.step.dropped) (received own r) r.step.dropped (λ q is. received_up (moments_of own) r.event r.took q is)
+    subst (IsMarkedBy (moments_of graph node (r ∷ own)) link) (sym (lookup_both link (marks own) ds))
+    (marked_by (ins_of graph node) (moments_of graph node own) ds link (keeps_links ds r.step.dropped) (received graph node own r) r.step.dropped (λ q is. received_up (moments_of graph node own) r.event r.took q is)
     (λ q is. downed_is ∙ receipt_marks_nothing graph node own r q is)
-    (subst (All (IsRegister (moments_of own))) (sym downed_is) (downed_registers graph node own r)) (mark own link) (beside link ds) refl before)
+    (subst (All (IsRegister (moments_of graph node own))) (sym downed_is) (downed_registers graph node own r)) (mark own link) (beside link ds) refl before)
 
 -- whatever a node is handed, the mark of a link tells its use and its commit register
-pub marked : (graph : Graph) (node : ℕ) (own : List Record) → IsNodeHistory graph node own → (link : ℕ) → IsMarkedBy (moments_of own) link (mark own link)
+pub marked : (graph : Graph) (node : ℕ) (own : List Record) → IsNodeHistory graph node own → (link : ℕ) → IsMarkedBy (moments_of graph node own) link (mark own link)
 marked graph node [] history link = λ kept. refl
 marked graph node (r ∷ own) history link = mark_follows graph node own r link history.1.downed_is (marked graph node own history.0 link)
 
@@ -245,5 +246,5 @@ frozen_by_mark moments link (Some v) value is by = let same : v ≡ value = cc i
 
 -- where a link is marked, its commit register is its mark
 pub mark_is_frozen : (graph : Graph) (node : ℕ) (own : List Record) (link : ℕ) (value : Ts) → IsNodeHistory graph node own → mark own link ≡ Some value
-    → register Commit (moments_of own) link ≡ value.0
-mark_is_frozen graph node own link value history is = frozen_by_mark (moments_of own) link (mark own link) value is (marked graph node own history link)
+    → register Commit (moments_of graph node own) link ≡ value.0
+mark_is_frozen graph node own link value history is = frozen_by_mark (moments_of graph node own) link (mark own link) value is (marked graph node own history link)

@@ -13,7 +13,7 @@ use Rattle.pipe_base.specs.declared.packet.Plane.{Plane}
 use Rattle.pipe_base.specs.declared.packet.Plane.TheVariants as planes
 use Rattle.pipe_base.specs.Clock.{after_stamp}
 use Rattle.pipe_base.specs.Failed.{is_announced}
-use Rattle.pipe_base.specs.Graph.{Graph, is_host}
+use Rattle.pipe_graph.specs.Graph.{Graph, is_host}
 use Rattle.pipe_base.specs.Scattering.{Scattering, SenderCall, Began, Acked, Noted, RecallAcked, AreRising, begun}
 use Rattle.pipe_base.specs.Settled.{is_noted, is_settled, unsettled}
 use Rattle.pipe_base.proofs.SenderLaws.{BeginsFrom, least_above, least_below_next, least_of_each, left_from, rising_more, settled_stays}
@@ -133,31 +133,31 @@ settled_still graph node own r s is =
     (λ past c none before. settled_stays c past s before) is
 
 -- stamps are below the next timestamp, and not below that before
-pub stamp_below : (own : List Record) (r : Record) (ts : Ts) → r.step.stamped ≡ Some ts → ts.0 < next (r ∷ own)
-stamp_below own r ts is = let same : after_stamp r.step.stamped ≡ ts.0 + 1 = ap after_stamp is in omega arith
+pub stamp_below : (graph : Graph) (node : ℕ) (own : List Record) (r : Record) (ts : Ts) → r.step.stamped ≡ Some ts → ts.0 < next graph node (r ∷ own)
+stamp_below graph node own r ts is = let same : after_stamp r.step.stamped ≡ ts.0 + 1 = ap after_stamp is in omega arith
 
-pub next_rises : (own : List Record) (r : Record) → next own ≤ next (r ∷ own)
-next_rises own r = omega arith
+pub next_rises : (graph : Graph) (node : ℕ) (own : List Record) (r : Record) → next graph node own ≤ next graph node (r ∷ own)
+next_rises graph node own r = omega arith
 
-stamped_above : (graph : Graph) (node : ℕ) (own : List Record) (r : Record) (ts : Ts) → IsNodeStep graph node own r → r.step.stamped ≡ Some ts → next own ≤ ts.0
+stamped_above : (graph : Graph) (node : ℕ) (own : List Record) (r : Record) (ts : Ts) → IsNodeStep graph node own r → r.step.stamped ≡ Some ts → next graph node own ≤ ts.0
 stamped_above graph node own r ts step is = stamp_above graph node own r.event ts (sym step.stamped_is ∙ is)
 
 -- all that were begun are below the next timestamp
 abbrev BegunBelow : ℕ → List SenderCall → Type 0
 BegunBelow bound calls = All (λ s. s.ts.0 < bound) (begun calls)
 
-pub begun_below_next : (graph : Graph) (node : ℕ) (own : List Record) → BegunBelow (next own) (sender_calls graph node own)
+pub begun_below_next : (graph : Graph) (node : ℕ) (own : List Record) → BegunBelow (next graph node own) (sender_calls graph node own)
 begun_below_next graph node [] = All-nil (λ (s : Scattering). s.ts.0 < 0)
 begun_below_next graph node (r ∷ own) =
     let calls = sender_calls graph node own in
-    let bound = next (r ∷ own) in
-    let rises = next_rises own r in
+    let bound = next graph node (r ∷ own) in
+    let rises = next_rises graph node own r in
     let before : BegunBelow bound calls =
-    All-weaker (λ (s : Scattering). s.ts.0 < next own) (λ (s : Scattering). s.ts.0 < bound) (λ (s : Scattering) lt. omega (arith, lt, rises)) (begun calls) (begun_below_next graph node own) in
+    All-weaker (λ (s : Scattering). s.ts.0 < next graph node own) (λ (s : Scattering). s.ts.0 < bound) (λ (s : Scattering) lt. omega (arith, lt, rises)) (begun calls) (begun_below_next graph node own) in
     begun_after (λ (ss : List Scattering). All (λ s. s.ts.0 < bound) ss) graph node own r
     (λ host now ts dests event stamp.
     All-append (λ (s : Scattering). s.ts.0 < bound) (begun calls) (record { ts = ts; dests = dests } ∷ []) before
-    (All-cons (λ (s : Scattering). s.ts.0 < bound) (record { ts = ts; dests = dests }) [] (stamp_below own r ts stamp) (All-nil (λ (s : Scattering). s.ts.0 < bound))))
+    (All-cons (λ (s : Scattering). s.ts.0 < bound) (record { ts = ts; dests = dests }) [] (stamp_below graph node own r ts stamp) (All-nil (λ (s : Scattering). s.ts.0 < bound))))
     before
 
 -- scatterings rise
@@ -170,20 +170,20 @@ begun_rise graph node (r ∷ own) history =
     (λ host now ts dests event stamp.
     let above = stamped_above graph node own r ts history.1 stamp in
     rising_more (begun calls) (record { ts = ts; dests = dests }) before
-    (All-weaker (λ (s : Scattering). s.ts.0 < next own) (λ (s : Scattering). s.ts.0 < ts.0) (λ (s : Scattering) lt. omega (arith, lt, above)) (begun calls) (begun_below_next graph node own)))
+    (All-weaker (λ (s : Scattering). s.ts.0 < next graph node own) (λ (s : Scattering). s.ts.0 < ts.0) (λ (s : Scattering) lt. omega (arith, lt, above)) (begun calls) (begun_below_next graph node own)))
     before
 
 -- ---- the promise of a host
 
 -- the promise is at most the next timestamp
-pub promise_within : (graph : Graph) (node : ℕ) (own : List Record) → promise graph node own ≤ next own
+pub promise_within : (graph : Graph) (node : ℕ) (own : List Record) → promise graph node own ≤ next graph node own
 promise_within graph node own =
-    least_below_next (next own) (unsettled (sender_calls graph node own))
-    (All-filter (λ (s : Scattering). not (is_settled (sender_calls graph node own) s)) (λ (s : Scattering). s.ts.0 < next own) (begun (sender_calls graph node own)) (begun_below_next graph node own))
+    least_below_next (next graph node own) (unsettled (sender_calls graph node own))
+    (All-filter (λ (s : Scattering). not (is_settled (sender_calls graph node own) s)) (λ (s : Scattering). s.ts.0 < next graph node own) (begun (sender_calls graph node own)) (begun_below_next graph node own))
 
 -- what is not settled is at or above the promise
 pub promise_bounds : (graph : Graph) (node : ℕ) (own : List Record) → All (λ s. promise graph node own ≤ s.ts.0) (unsettled (sender_calls graph node own))
-promise_bounds graph node own = least_of_each (next own) (unsettled (sender_calls graph node own))
+promise_bounds graph node own = least_of_each (next graph node own) (unsettled (sender_calls graph node own))
 
 -- what is not settled after a record is at or above the promise before it
 abbrev LeftAbove : ℕ → List SenderCall → Type 0
@@ -207,13 +207,13 @@ promise_rises graph node own r step =
     let above = stamped_above graph node own r ts step stamp in
     left_from bound (Began (record { ts = ts; dests = dests })) calls (omega (arith, above, within)) before)
     (λ past c none all. left_from bound c past (none_from bound c none) all) before in
-    least_above bound (next (r ∷ own)) (unsettled (sender_calls graph node (r ∷ own))) (omega (arith, within, next_rises own r)) after
+    least_above bound (next graph node (r ∷ own)) (unsettled (sender_calls graph node (r ∷ own))) (omega (arith, within, next_rises graph node own r)) after
 
 -- ---- what any node promises
 
 host_rises : (plane : Plane) (graph : Graph) (node : ℕ) (own : List Record) (r : Record) → IsNodeStep graph node own r
     → host_promise plane graph node own ≤ host_promise plane graph node (r ∷ own)
-host_rises planes.BestEffort graph node own r step = next_rises own r
+host_rises planes.BestEffort graph node own r step = next_rises graph node own r
 host_rises planes.Commit graph node own r step = promise_rises graph node own r step
 
 chosen_rises : (b : Bool) (h f k g : ℕ) → h ≤ k → f ≤ g → (if b then h else f) ≤ (if b then k else g)

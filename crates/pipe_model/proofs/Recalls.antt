@@ -3,7 +3,7 @@ use Rattle.std.proofs.Common.{◌≡◌, inl, inr, ℕ, ◌≤◌, ◌==◌, ◌
 use Rattle.std.proofs.lemmas.Bool.{and_parts, or_cases, or_left, or_right}
 use Rattle.pipe_base.specs.declared.message.Key.{Key}
 use Rattle.pipe_base.specs.declared.packet.Plane.TheVariants.{Commit}
-use Rattle.pipe_base.specs.Graph.{Graph}
+use Rattle.pipe_graph.specs.Graph.{Graph}
 use Rattle.pipe_base.specs.Messages.{same_key}
 use Rattle.pipe_base.proofs.KeyOrder.{same_numbers}
 use Rattle.pipe_model.specs.declared.record.Record.{Record}

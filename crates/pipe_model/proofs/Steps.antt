@@ -7,10 +7,9 @@ use Rattle.pipe_base.specs.declared.name.Ts.{Ts}
 use Rattle.pipe_base.specs.declared.packet.Packet.{Packet}
 use Rattle.pipe_base.specs.declared.message.Service.{Service}
 use Rattle.pipe_base.specs.declared.message.Service.TheVariants.{BestEffort, Reliable}
-use Rattle.pipe_base.specs.Graph.{Graph, is_half, is_host}
-use Rattle.pipe_base.specs.Moment.{Moment, is_up, with_received, with_downed, with_dropped}
-use Rattle.pipe_base.specs.ShortestRoute.{not_dropped}
-use Rattle.pipe_base.proofs.MessageLaws.{filter_all}
+use Rattle.pipe_graph.specs.Graph.{Graph, is_half, is_host, ins_of}
+use Rattle.pipe_base.specs.Moment.{Moment, is_up, with_received, with_downed}
+use Rattle.pipe_base.specs.Entries.{with_entries}
 use Rattle.pipe_model.specs.declared.event.Event.{Event}
 use Rattle.pipe_model.specs.declared.event.Event.TheVariants.{Take, Tick}
 use Rattle.pipe_model.specs.declared.record.Record.{Record}
@@ -42,8 +41,6 @@ received_packet past (Take link place keep) l p q is = chosen_packet ((l.0 == li
 received_packet past _ l p q is = cc
 
 -- where no link is dropped each keeps its beacon
-pub no_drop : (ls : List LinkId) → filter (λ (l : LinkId). not_dropped [] l.0) ls ≡ ls
-no_drop ls = filter_all (λ (l : LinkId). not_dropped [] l.0) ls (λ k d lt. refl)
 
 -- a half gets no messages, so it holds and logs none
 half_is_no_host : (hosts node : ℕ) → nat_le hosts node ≡ true → nat_lt node hosts ≡ false
@@ -57,7 +54,7 @@ gets_nothing graph node None other = refl
 gets_nothing graph node (Some q) other = rw other refl
 
 got_nothing : (service : Service) (graph : Graph) (node : ℕ) (own : List Record) (r : Record) → is_host graph node ≡ false → got service graph node own r ≡ None
-got_nothing service graph node own r other = ap (message_of service) (gets_nothing graph node (received own r) other)
+got_nothing service graph node own r other = ap (message_of service) (gets_nothing graph node (received graph node own r) other)
 
 pub holds_nothing : (service : Service) (graph : Graph) (node : ℕ) (own : List Record) → is_host graph node ≡ false → held service graph node own ≡ []
 holds_nothing service graph node [] other = refl
@@ -78,16 +75,16 @@ no_tick_by past (Take link place keep) took q is = refl
 no_tick_by past _ took q is = cc
 
 -- a record that receives is no tick
-pub receipt_no_tick : (own : List Record) (r : Record) (q : ℕ × Packet) → received own r ≡ Some q → tick_of r.event ≡ None
-receipt_no_tick own r q is = no_tick_by (moments_of own) r.event r.took q is
+pub receipt_no_tick : (graph : Graph) (node : ℕ) (own : List Record) (r : Record) (q : ℕ × Packet) → received graph node own r ≡ Some q → tick_of r.event ≡ None
+receipt_no_tick graph node own r q is = no_tick_by (moments_of graph node own) r.event r.took q is
 
-marks_nothing_by : (graph : Graph) (node : ℕ) (own : List Record) (event : Event) (took : Took) (q : ℕ × Packet) → received_of (moments_of own) event took ≡ Some q
+marks_nothing_by : (graph : Graph) (node : ℕ) (own : List Record) (event : Event) (took : Took) (q : ℕ × Packet) → received_of (moments_of graph node own) event took ≡ Some q
     → downed_by graph node own event took ≡ []
 marks_nothing_by graph node own (Take link place keep) took q is = refl
 marks_nothing_by graph node own _ took q is = cc
 
 -- a record that receives takes no link down
-pub receipt_marks_nothing : (graph : Graph) (node : ℕ) (own : List Record) (r : Record) (q : ℕ × Packet) → received own r ≡ Some q → downed graph node own r ≡ []
+pub receipt_marks_nothing : (graph : Graph) (node : ℕ) (own : List Record) (r : Record) (q : ℕ × Packet) → received graph node own r ≡ Some q → downed graph node own r ≡ []
 receipt_marks_nothing graph node own r q is = marks_nothing_by graph node own r.event r.took q is
 
 received_drops_by : (past : List Moment) (known : List LinkId) (event : Event) (took : Took) (q : ℕ × Packet) → received_of past event took ≡ Some q → drops_by known event took ≡ []
@@ -95,8 +92,8 @@ received_drops_by past known (Take link place keep) took q is = refl
 received_drops_by past known _ took q is = cc
 
 -- nor drops one
-pub receipt_drops_nothing : (graph : Graph) (node : ℕ) (own : List Record) (r : Record) (q : ℕ × Packet) → received own r ≡ Some q → newly_dropped graph node own r ≡ []
-receipt_drops_nothing graph node own r q is = received_drops_by (moments_of own) (known_drops own) r.event r.took q is
+pub receipt_drops_nothing : (graph : Graph) (node : ℕ) (own : List Record) (r : Record) (q : ℕ × Packet) → received graph node own r ≡ Some q → newly_dropped graph node own r ≡ []
+receipt_drops_nothing graph node own r q is = received_drops_by (moments_of graph node own) (known_drops own) r.event r.took q is
 
 tick_drops_by : (known : List LinkId) (event : Event) (took : Took) (now : Ts) → tick_of event ≡ Some now → drops_by known event took ≡ []
 tick_drops_by known (Tick node reading) took now is = refl
@@ -108,26 +105,26 @@ tick_drops_nothing graph node own r now is = tick_drops_by (known_drops own) r.e
 
 -- the moments of a record that receives
 pub moments_received : (graph : Graph) (node : ℕ) (own : List Record) (r : Record) (q : ℕ × Packet) → IsNodeStep graph node own r
-    → received own r ≡ Some q → moments_of (r ∷ own) ≡ with_received true (Some q) (moments_of own)
+    → received graph node own r ≡ Some q → moments_of graph node (r ∷ own) ≡ with_received true (Some q) (moments_of graph node own)
 moments_received graph node own r q step is =
     let down : r.step.downed ≡ [] = step.downed_is ∙ receipt_marks_nothing graph node own r q is in
     let drop : r.step.dropped ≡ [] = step.dropped_is ∙ receipt_drops_nothing graph node own r q is in
     rw (drop, down, is) refl
 
 -- the moments of a record that receives nothing: links go down, then links are dropped
-pub moments_marked : (own : List Record) (r : Record) → received own r ≡ None
-    → moments_of (r ∷ own) ≡ with_dropped r.step.dropped (with_downed r.step.downed (moments_of own))
-moments_marked own r is = rw is refl
+pub moments_marked : (graph : Graph) (node : ℕ) (own : List Record) (r : Record) → received graph node own r ≡ None
+    → moments_of graph node (r ∷ own) ≡ with_entries (ins_of graph node) r.step.dropped (with_downed r.step.downed (moments_of graph node own))
+moments_marked graph node own r is = rw is refl
 
 -- where it drops none
-pub moments_downed : (own : List Record) (r : Record) → received own r ≡ None → r.step.dropped ≡ []
-    → moments_of (r ∷ own) ≡ with_downed r.step.downed (moments_of own)
-moments_downed own r is none = rw (none, is) refl
+pub moments_downed : (graph : Graph) (node : ℕ) (own : List Record) (r : Record) → received graph node own r ≡ None → r.step.dropped ≡ []
+    → moments_of graph node (r ∷ own) ≡ with_downed r.step.downed (moments_of graph node own)
+moments_downed graph node own r is none = rw (none, is) refl
 
 -- where it takes none down
-pub moments_dropped : (own : List Record) (r : Record) → received own r ≡ None → r.step.downed ≡ []
-    → moments_of (r ∷ own) ≡ with_dropped r.step.dropped (moments_of own)
-moments_dropped own r is none = rw (none, is) refl
+pub moments_dropped : (graph : Graph) (node : ℕ) (own : List Record) (r : Record) → received graph node own r ≡ None → r.step.downed ≡ []
+    → moments_of graph node (r ∷ own) ≡ with_entries (ins_of graph node) r.step.dropped (moments_of graph node own)
+moments_dropped graph node own r is none = rw (none, is) refl
 
 -- the links that are known as dropped grow by those that the record drops
 pub drops_more : (graph : Graph) (node : ℕ) (own : List Record) (r : Record) → IsNodeStep graph node own r

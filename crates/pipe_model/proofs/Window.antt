@@ -11,7 +11,7 @@ use Rattle.pipe_base.specs.declared.name.HostId.{HostId}
 use Rattle.pipe_base.specs.declared.name.Ts.{Ts}
 use Rattle.pipe_base.specs.declared.packet.Packet.{Packet}
 use Rattle.pipe_base.specs.Clock.{stamp_at}
-use Rattle.pipe_base.specs.Graph.{Graph}
+use Rattle.pipe_graph.specs.Graph.{Graph}
 use Rattle.pipe_base.specs.Limits.{most_receivers, most_unsettled}
 use Rattle.pipe_base.specs.Packets.{Fields, prepare_to, recall_to}
 use Rattle.pipe_base.specs.Resends.{resends, resends_for}
@@ -68,10 +68,10 @@ kept_few c calls same few =
 
 -- ---- a reliable send that is stamped found the window open
 
-open_window : (b : Bool) (o : Option HostId) (now n stamp : ℕ) (ts : Ts) → where_ok (send_outcome o b now n) stamp ≡ Some ts → b ≡ false
-open_window b (Some failed) now n stamp ts is = cc
-open_window true None now n stamp ts is = cc
-open_window false None now n stamp ts is = refl
+open_window : (b : Bool) (o : Option HostId) (top now n stamp : ℕ) (ts : Ts) → where_ok (send_outcome o b top now n) stamp ≡ Some ts → b ≡ false
+open_window b (Some failed) top now n stamp ts is = cc
+open_window true None top now n stamp ts is = cc
+open_window false None top now n stamp ts is = refl
 
 below_full : (n : ℕ) → nat_le most_unsettled n ≡ false → n < most_unsettled
 below_full n is = grind (arith, nat_tests, is)
@@ -83,7 +83,7 @@ started_few graph node own r host now ts dests step event stamp =
     let stamps : stamped graph node own (Send host Reliable now dests) ≡ Some ts =
     sym (ap (λ (e : Event). stamped graph node own e) event) ∙ sym step.stamped_is ∙ stamp in
     below_full (length pending)
-    (open_window (is_window_full Reliable pending) (first_failed (noted_hosts own) dests) now.0 (next own) (stamp_at now.0 (next own)) ts stamps)
+    (open_window (is_window_full Reliable pending) (first_failed (noted_hosts own) dests) graph.top now.0 (next graph node own) (stamp_at now.0 (next graph node own)) ts stamps)
 
 -- whatever a node is handed, its window holds
 pub unsettled_few : (graph : Graph) (node : ℕ) (own : List Record) → IsNodeHistory graph node own → AreFew (sender_calls graph node own)

@@ -1,10 +1,11 @@
 -- Which node acts in an event, and what a node did by itself.
-use Rattle.std.specs.Prelude.{◌≡◌, ℕ, ◌==◌, ◌&&◌, not, Bool, true, false, List, filter}
+use Rattle.std.specs.Prelude.{◌≡◌, ℕ, ◌==◌, ◌&&◌, not, Bool, true, false, List, filter, Option, None, Some}
 use Rattle.pipe_base.specs.declared.control.To.{To}
 use Rattle.pipe_base.specs.declared.control.To.TheVariants.{Node}
+use Rattle.pipe_base.specs.declared.name.NodeId.{NodeId}
 use Rattle.pipe_base.specs.declared.step.Outcome.{Outcome}
 use Rattle.pipe_base.specs.declared.step.Outcome.TheVariants.{Crashed, NoItem}
-use Rattle.pipe_base.specs.Graph.{Graph, head_of, ins_of}
+use Rattle.pipe_graph.specs.Graph.{Graph, head_of, ins_of}
 use Rattle.pipe_base.specs.Moment.{has_link}
 use Rattle.pipe_model.specs.declared.event.Event.{Event}
 use Rattle.pipe_model.specs.declared.event.Event.TheVariants.{Send, Tick, Take, ControlTake, Crash}
@@ -29,6 +30,11 @@ acts graph node (Take link place keep) took = head_of graph link.0 == node
 acts graph node (ControlTake place keep) took = reached node took
 acts graph node (Crash n) took = n.0 == node
 acts graph node _ took = false
+
+-- a node acts, and it is this one
+abbrev pub is_node : Option NodeId → ℕ → Bool
+is_node None n = false
+is_node (Some m) n = m.0 == n
 
 -- a take is from a link into the node
 abbrev pub ComesIn : Graph → ℕ → Event → Type 0

@@ -8,7 +8,7 @@ use Rattle.pipe_base.specs.declared.name.LinkId.{LinkId}
 use Rattle.pipe_base.specs.declared.step.Outcome.{Outcome}
 use Rattle.pipe_base.specs.declared.step.Outcome.TheVariants.{Ok}
 use Rattle.pipe_base.specs.declared.step.Step.{Step}
-use Rattle.pipe_base.specs.Graph.{Graph}
+use Rattle.pipe_graph.specs.Graph.{Graph}
 use Rattle.pipe_base.specs.Step.{quiet_step}
 use Rattle.pipe_model.specs.declared.event.Event.{Event}
 use Rattle.pipe_model.specs.declared.event.Event.TheVariants.{ControlTake, Decide}
@@ -24,15 +24,15 @@ after_addressed graph Controller control v = after_message graph control v
 after_addressed graph _ control v = v
 
 -- what the controller knows after an event: it takes what is addressed to it, and decides
-abbrev pub after_event : Graph → Event → Took → View → View
-after_event graph (ControlTake place keep) (Message a) v = after_addressed graph a.to a.control v
-after_event graph Decide took v = after_decision graph v
-after_event graph _ took v = v
+abbrev pub after_event : Graph → Event → Took → Outcome → View → View
+after_event graph (ControlTake place keep) (Message a) outcome v = after_addressed graph a.to a.control v
+after_event graph Decide took outcome v = after_decision graph v
+after_event graph _ took outcome v = v
 
 -- What the controller knows after a history.
 abbrev pub view : Graph → List Record → View
 view graph [] = first_view graph
-view graph (r ∷ past) = after_event graph r.event r.took (view graph past)
+view graph (r ∷ past) = after_event graph r.event r.took r.step.outcome (view graph past)
 
 -- what a decision does: the hosts that it announces, the links that it drops, and the messages that it puts
 abbrev pub decision : Graph → View → Step

@@ -1,7 +1,7 @@
 -- Who is correct: a host that did not crash and was not announced as failed.
 use Rattle.std.specs.Prelude.{◌≡◌, ℕ, ◌<◌, false, List}
 use Rattle.pipe_base.specs.Failed.{is_announced}
-use Rattle.pipe_base.specs.Graph.{Graph}
+use Rattle.pipe_graph.specs.Graph.{Graph}
 use Rattle.pipe_model.specs.declared.record.Record.{Record}
 use Rattle.pipe_model.specs.Controller.{announced}
 use Rattle.pipe_model.specs.Outcome.{has_crashed}

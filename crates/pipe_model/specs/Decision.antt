@@ -10,12 +10,12 @@ use Rattle.pipe_base.specs.declared.name.HostId.{HostId}
 use Rattle.pipe_base.specs.declared.name.LinkId.{LinkId}
 use Rattle.pipe_base.specs.declared.name.NodeId.{NodeId}
 use Rattle.pipe_base.specs.declared.name.Ts.{Ts}
-use Rattle.pipe_base.specs.Cut.{is_cut}
-use Rattle.pipe_base.specs.Doomed.{doomed}
-use Rattle.pipe_base.specs.FailureTime.{failure_time}
-use Rattle.pipe_base.specs.Graph.{Graph, all_links, head_of, is_half, tail_of}
-use Rattle.pipe_base.specs.Reported.{is_reported}
-use Rattle.pipe_base.specs.Useless.{is_useless}
+use Rattle.pipe_graph.specs.Cut.{is_cut}
+use Rattle.pipe_graph.specs.Doomed.{doomed}
+use Rattle.pipe_graph.specs.FailureTime.{failure_time}
+use Rattle.pipe_graph.specs.Graph.{Graph, all_links, head_of, is_half, tail_of}
+use Rattle.pipe_graph.specs.Reported.{is_reported}
+use Rattle.pipe_graph.specs.Useless.{is_useless}
 use Rattle.pipe_model.specs.View.{View, intact, is_due, is_kept}
 
 abbrev pub host_id : ℕ → HostId

@@ -4,7 +4,7 @@ use Rattle.pipe_base.specs.declared.control.Addressed.{Addressed}
 use Rattle.pipe_base.specs.declared.control.Control.TheVariants.{Down}
 use Rattle.pipe_base.specs.declared.name.LinkId.{LinkId}
 use Rattle.pipe_base.specs.declared.name.Ts.{Ts}
-use Rattle.pipe_base.specs.Graph.{Graph, head_of}
+use Rattle.pipe_graph.specs.Graph.{Graph, head_of}
 use Rattle.pipe_model.specs.declared.record.Record.{Record}
 use Rattle.pipe_model.specs.Acting.{own}
 use Rattle.pipe_model.specs.Marks.{mark}
@@ -23,7 +23,8 @@ pub record HasTold (own : List Record) (link : LinkId) (value : Ts) (message : A
 -- where the message reports a link with a value, the head of the link told so
 abbrev pub IsDownTrue : Graph → List Record → Addressed → Type 0
 IsDownTrue graph past message =
-    (link : LinkId) (value : Ts) → message.control ≡ Down link value → HasTold (own graph (head_of graph link.0) past) link value message
+    (link : LinkId) (value : Ts) → message.control ≡ Down link value
+    → HasTold (own graph (head_of graph link.0) past) link value message
 
 -- Reports are true: each that waits was put by the head of its link, and tells the mark of the link.
 abbrev pub AreDownsTrue : Graph → List Record → Type 0

@@ -12,12 +12,13 @@ use Rattle.pipe_base.specs.declared.packet.Packet.{Packet}
 use Rattle.pipe_base.specs.declared.packet.Plane.TheVariants as plane
 use Rattle.pipe_base.specs.declared.step.Fate.{Fate}
 use Rattle.pipe_base.specs.Fate.{is_holding}
-use Rattle.pipe_base.specs.Graph.{Graph, ins_of, is_host, outs_of}
+use Rattle.pipe_graph.specs.Graph.{Graph, ins_of, is_host, outs_of}
 use Rattle.pipe_base.specs.Packets.{Fields, ack_to, beacon, forwarded, recall_ack_to, sent_to}
 use Rattle.pipe_base.specs.Resends.{resends}
 use Rattle.pipe_base.specs.Scattering.{SenderCall}
 use Rattle.pipe_base.specs.Settled.{is_recalling}
-use Rattle.pipe_base.specs.ShortestRoute.{not_dropped, route}
+use Rattle.pipe_graph.specs.ShortestRoute.{route}
+use Rattle.pipe_graph.specs.Passable.{not_dropped, is_passable}
 use Rattle.pipe_base.specs.Ways.{routed, lost}
 use Rattle.pipe_model.specs.declared.event.Event.{Event}
 use Rattle.pipe_model.specs.declared.event.Event.TheVariants.{Send, Tick, Take}
@@ -37,7 +38,7 @@ host_be (Some ts) next = ts.0
 -- All fields are those after the record: a host's promise, or the barriers of a half.
 abbrev pub fields : Graph → ℕ → List Record → Record → Fields
 fields graph node own r =
-    if is_host graph node then record { be = host_be r.step.stamped (next (r ∷ own)); commit = promise graph node (r ∷ own) }
+    if is_host graph node then record { be = host_be r.step.stamped (next graph node (r ∷ own)); commit = promise graph node (r ∷ own) }
     else record { be = barrier_at plane.BestEffort graph node (r ∷ own); commit = barrier_at plane.Commit graph node (r ∷ own) }
 
 -- a send owes a message to each receiver, in listed order
@@ -61,7 +62,7 @@ owed_by_host host f fate (Some p) =
 -- what is owed for the packet that a take brings
 abbrev pub owed_by_take : Graph → ℕ → Fields → List Record → Record → List Packet
 owed_by_take graph node f own r =
-    if is_host graph node then owed_by_host node f r.step.fate (gets graph node own r) else owed_by_half f (received own r)
+    if is_host graph node then owed_by_host node f r.step.fate (gets graph node own r) else owed_by_half f (received graph node own r)
 
 -- a host owes what was not answered again
 abbrev pub owed_by_tick : Graph → ℕ → Fields → List SenderCall → List Packet
@@ -78,10 +79,11 @@ owed_of graph node f own r _ = []
 abbrev pub owed : Graph → ℕ → List Record → Record → List Packet
 owed graph node own r = owed_of graph node (fields graph node own r) own r r.event
 
--- a tick owes a beacon on each out-link that the node does not know as dropped, in rising number
+-- a tick owes a beacon on each out-link on which the node may put packets, in rising number
 abbrev pub beacons_of : Graph → ℕ → List LinkId → Fields → Event → List (LinkId × Packet)
-beacons_of graph node dropped f (Tick n now) = map (λ l. (l, beacon f)) (filter (λ l. not_dropped dropped l.0) (outs_of graph node))
-beacons_of graph node dropped f _ = []
+beacons_of graph node known f (Tick n now) =
+    map (λ l. (l, beacon f)) (filter (λ l. is_passable graph known l.0) (outs_of graph node))
+beacons_of graph node known f _ = []
 
 -- the beacons of a record
 abbrev pub beacons : Graph → ℕ → List Record → Record → List (LinkId × Packet)
@@ -89,7 +91,8 @@ beacons graph node own r = beacons_of graph node (known_drops (r ∷ own)) (fiel
 
 -- what the record puts, in order: the owed packets that have a way, each on it, then the beacons
 abbrev pub put : Graph → ℕ → List Record → Record → List (LinkId × Packet)
-put graph node own r = routed (route graph (known_drops (r ∷ own)) node) (owed graph node own r) ++ beacons graph node own r
+put graph node own r =
+    routed (route graph (known_drops (r ∷ own)) node) (owed graph node own r) ++ beacons graph node own r
 
 -- how many owed packets have no way
 abbrev pub unrouted : Graph → ℕ → List Record → Record → ℕ
@@ -102,7 +105,8 @@ down_told l (Some value) = record { to = Controller; control = Down l value } �
 
 -- the marks of the in-links that the node does not know as dropped, told to the controller in rising number
 abbrev pub downs_told : Graph → ℕ → List Record → List Addressed
-downs_told graph node own = flat_map (λ l. down_told l (mark own l.0)) (filter (λ l. not_dropped (known_drops own) l.0) (ins_of graph node))
+downs_told graph node own =
+    flat_map (λ l. down_told l (mark own l.0)) (filter (λ l. not_dropped (known_drops own) l.0) (ins_of graph node))
 
 -- a host that noted failed hosts, and has nothing more to take back, tells how many it noted
 abbrev pub done_told : Graph → ℕ → List Record → List Addressed

@@ -1,8 +1,8 @@
 -- Which events can happen: their names are those of the network.
 use Rattle.std.specs.Prelude.{ℕ, ◌<◌, ◌≤◌, List, length, All, AllPairs, ◌≢◌}
 use Rattle.pipe_base.specs.declared.name.HostId.{HostId}
-use Rattle.pipe_base.specs.Graph.{Graph}
-use Rattle.pipe_base.specs.Limits.{last_stamp, most_receivers}
+use Rattle.pipe_graph.specs.Graph.{Graph}
+use Rattle.pipe_base.specs.Limits.{most_receivers}
 use Rattle.pipe_model.specs.declared.event.Event.{Event}
 use Rattle.pipe_model.specs.declared.event.Event.TheVariants.{Send, Tick, Take, Lose, Crash, Cut}
 
@@ -16,13 +16,13 @@ pub record AreReceivers (graph : Graph) (dests : List (HostId × List ℕ)) : Ty
 -- a host of the network sends at a reading that a clock may have
 pub record CanSend (graph : Graph) (host now : ℕ) (dests : List (HostId × List ℕ)) : Type 0 where
   pub host_in : host < graph.hosts
-  pub reading : now ≤ last_stamp
+  pub reading : now ≤ graph.top
   pub receivers : AreReceivers graph dests
 
 -- the names are those of the network, and readings are within the clock
 abbrev pub IsOfGraph : Graph → Event → Type 0
 IsOfGraph graph (Send host service now dests) = CanSend graph host.0 now.0 dests
-IsOfGraph graph (Tick node now) = (node.0 < graph.nodes) × (now.0 ≤ last_stamp)
+IsOfGraph graph (Tick node now) = (node.0 < graph.nodes) × (now.0 ≤ graph.top)
 IsOfGraph graph (Take link place keep) = link.0 < length graph.links
 IsOfGraph graph (Lose link place) = link.0 < length graph.links
 IsOfGraph graph (Crash node) = node.0 < graph.nodes

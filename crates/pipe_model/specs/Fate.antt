@@ -12,7 +12,7 @@ use Rattle.pipe_base.specs.declared.step.Fate.{Fate}
 use Rattle.pipe_base.specs.declared.step.Fate.TheVariants.{Held}
 use Rattle.pipe_base.specs.Failed.{time_of}
 use Rattle.pipe_base.specs.Fate.{fate_of}
-use Rattle.pipe_base.specs.Graph.{Graph}
+use Rattle.pipe_graph.specs.Graph.{Graph}
 use Rattle.pipe_base.specs.Messages.{Messages, with_message}
 use Rattle.pipe_model.specs.declared.record.Record.{Record}
 use Rattle.pipe_model.specs.Got.{got, key_of}
@@ -37,7 +37,8 @@ recalled_for Reliable graph node own key = got_recall graph node key own
 -- the fate of a message, if there is one
 abbrev pub fate_for : ℕ → List Announced → (Key → Bool) → Messages → Option Packet → Option Fate
 fate_for barrier failed recalled held None = None
-fate_for barrier failed recalled held (Some p) = Some (fate_of barrier (time_of p.src.0 failed) (recalled (key_of p)) held (key_of p))
+fate_for barrier failed recalled held (Some p) =
+    Some (fate_of barrier (time_of p.src.0 failed) (recalled (key_of p)) held (key_of p))
 
 -- a message with the fate held joins those that were held
 abbrev pub with_held : Option Fate → Option Packet → Messages → Messages

@@ -6,7 +6,7 @@ use Rattle.pipe_base.specs.declared.message.Service.TheVariants.{BestEffort, Rel
 use Rattle.pipe_base.specs.declared.packet.Packet.{Packet}
 use Rattle.pipe_base.specs.declared.packet.PacketKind.{PacketKind}
 use Rattle.pipe_base.specs.declared.packet.PacketKind.TheVariants.{Beacon, Plain, Prepare}
-use Rattle.pipe_base.specs.Graph.{Graph, is_host}
+use Rattle.pipe_graph.specs.Graph.{Graph, is_host}
 use Rattle.pipe_model.specs.declared.record.Record.{Record}
 use Rattle.pipe_model.specs.Moments.{received}
 
@@ -17,11 +17,12 @@ is_beacon _ = false
 -- the packet that is received at a host, is addressed to it and is no beacon
 abbrev pub gets_of : Graph → ℕ → Option (ℕ × Packet) → Option Packet
 gets_of graph node None = None
-gets_of graph node (Some q) = if is_host graph node && ((q.1.dst.0 == node) && not (is_beacon q.1.kind)) then Some q.1 else None
+gets_of graph node (Some q) = if is_host graph node && ((q.1.dst.0 == node)
+    && not (is_beacon q.1.kind)) then Some q.1 else None
 
 -- What a host gets in a record: a message, or the answer to one.
 abbrev pub gets : Graph → ℕ → List Record → Record → Option Packet
-gets graph node own r = gets_of graph node (received own r)
+gets graph node own r = gets_of graph node (received graph node own r)
 
 -- The packets that carry messages of a service. A packet carries at most one message.
 abbrev pub carries : Service → PacketKind → Bool

@@ -2,6 +2,7 @@ pub mod Acknowledged
 pub mod Acting
 pub mod AllOrNone
 pub mod Clock
+pub mod Collected
 pub mod Controller
 pub mod Correct
 pub mod Decision
@@ -27,6 +28,7 @@ pub mod Packets
 pub mod PreparedHeld
 pub mod Recalled
 pub mod Recalls
+pub mod Records
 pub mod Run
 pub mod Sender
 pub mod View

@@ -7,7 +7,7 @@ use Rattle.pipe_base.specs.declared.control.Announced.{Announced}
 use Rattle.pipe_base.specs.declared.control.Control.{Control}
 use Rattle.pipe_base.specs.declared.control.Control.TheVariants.{DropLinks, Freeze, Notice}
 use Rattle.pipe_base.specs.Failed.{past_known}
-use Rattle.pipe_base.specs.Graph.{Graph, ins_of, is_host}
+use Rattle.pipe_graph.specs.Graph.{Graph, ins_of, is_host}
 use Rattle.pipe_base.specs.Moment.{Moment, has_link, is_up}
 use Rattle.pipe_base.specs.Silence.{mark_of, silent_marks}
 use Rattle.pipe_model.specs.declared.event.Event.{Event}
@@ -24,8 +24,10 @@ told_marks ins moments _ = []
 
 -- by the event: a tick takes the silent links down, a control message what it tells
 abbrev pub downed_by : Graph → ℕ → List Record → Event → Took → List (LinkId × Ts)
-downed_by graph node own (Tick n now) took = silent_marks graph.patience (ins_of graph node) (moments_of own) (quiet_calls own) now.0
-downed_by graph node own (ControlTake place keep) (Message a) = told_marks (ins_of graph node) (moments_of own) a.control
+downed_by graph node own (Tick n now) took =
+    silent_marks graph.patience (ins_of graph node) (moments_of graph node own) (quiet_calls graph node own) now.0
+downed_by graph node own (ControlTake place keep) (Message a) =
+    told_marks (ins_of graph node) (moments_of graph node own) a.control
 downed_by graph node own _ _ = []
 
 -- The links that go down in a record, each with the greatest commit barrier received on it.

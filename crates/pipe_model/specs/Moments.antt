@@ -6,8 +6,9 @@ use Rattle.pipe_base.specs.declared.control.Announced.{Announced}
 use Rattle.pipe_base.specs.declared.packet.Packet.{Packet}
 use Rattle.pipe_base.specs.declared.packet.Plane.{Plane}
 use Rattle.pipe_base.specs.declared.step.Step.{Step}
-use Rattle.pipe_base.specs.Graph.{Graph, ins_of}
-use Rattle.pipe_base.specs.Moment.{Moment, is_up, keeps_links, with_received, with_downed, with_dropped}
+use Rattle.pipe_graph.specs.Graph.{Graph, ins_of}
+use Rattle.pipe_base.specs.Entries.{with_entries}
+use Rattle.pipe_base.specs.Moment.{Moment, is_up, keeps_links, with_received, with_downed}
 use Rattle.pipe_base.specs.Silence.{QuietCall, Took as TookOn, Ticked}
 use Rattle.pipe_base.specs.Barrier.{barrier}
 use Rattle.pipe_model.specs.declared.event.Event.{Event}
@@ -26,19 +27,20 @@ abbrev pub received_of : List Moment → Event → Took → Option (ℕ × Packe
 received_of past (Take link place keep) took = taken_from past link.0 took
 received_of past _ took = None
 
--- the moments of a step: the packet received, then each link that went down, then each that was dropped
-abbrev pub moments_after : List Moment → Event → Took → Step → List Moment
-moments_after past event took step =
-    with_dropped step.dropped (with_downed step.downed (with_received (keeps_links step.downed step.dropped) (received_of past event took) past))
+-- the moments of a step at a node with these in-links: the packet received, then each link that went down, then each entry of
+-- what was dropped
+abbrev pub moments_after : List LinkId → List Moment → Event → Took → Step → List Moment
+moments_after ins past event took step =
+    with_entries ins step.dropped (with_downed step.downed (with_received (keeps_links step.downed step.dropped) (received_of past event took) past))
 
 -- all moments of a node, from its own records
-abbrev pub moments_of : List Record → List Moment
-moments_of [] = []
-moments_of (r ∷ own) = moments_after (moments_of own) r.event r.took r.step
+abbrev pub moments_of : Graph → ℕ → List Record → List Moment
+moments_of graph node [] = []
+moments_of graph node (r ∷ own) = moments_after (ins_of graph node) (moments_of graph node own) r.event r.took r.step
 
 -- what the record received, after the node's own records before it
-abbrev pub received : List Record → Record → Option (ℕ × Packet)
-received own r = received_of (moments_of own) r.event r.took
+abbrev pub received : Graph → ℕ → List Record → Record → Option (ℕ × Packet)
+received graph node own r = received_of (moments_of graph node own) r.event r.took
 
 -- the reading of a tick
 abbrev pub tick_of : Event → Option Ts
@@ -52,13 +54,13 @@ with_quiet None (Some now) past = Ticked now.0 ∷ past
 with_quiet None None past = past
 
 -- the receipts and ticks of a node, from its own records
-abbrev pub quiet_calls : List Record → List QuietCall
-quiet_calls [] = []
-quiet_calls (r ∷ own) = with_quiet (received own r) (tick_of r.event) (quiet_calls own)
+abbrev pub quiet_calls : Graph → ℕ → List Record → List QuietCall
+quiet_calls graph node [] = []
+quiet_calls graph node (r ∷ own) = with_quiet (received graph node own r) (tick_of r.event) (quiet_calls graph node own)
 
 -- the node's barrier in a plane after its own records
 abbrev pub barrier_at : Plane → Graph → ℕ → List Record → ℕ
-barrier_at plane graph node own = barrier plane (ins_of graph node) (moments_of own)
+barrier_at plane graph node own = barrier plane (ins_of graph node) (moments_of graph node own)
 
 -- the failed hosts that a host has noted, in the order of coming to know
 abbrev pub noted_hosts : List Record → List Announced

@@ -3,7 +3,7 @@ use Rattle.std.specs.Prelude.{◌≡◌, ◌⊎◌, ℕ, ◌≤◌, List, [], �
 use Rattle.pipe_base.specs.declared.packet.Packet.{Packet}
 use Rattle.pipe_base.specs.declared.packet.Plane.{Plane}
 use Rattle.pipe_base.specs.Barrier.{field_of, register}
-use Rattle.pipe_base.specs.Graph.{Graph, head_of, tail_of}
+use Rattle.pipe_graph.specs.Graph.{Graph, head_of, tail_of}
 use Rattle.pipe_model.specs.declared.record.Record.{Record}
 use Rattle.pipe_model.specs.Acting.{own}
 use Rattle.pipe_model.specs.Moments.{moments_of}
@@ -20,7 +20,8 @@ tail_promise plane graph link past = node_promise plane graph (tail_of graph lin
 
 -- the greatest field that was received on a link, or 0
 abbrev pub greatest_received : Plane → Graph → ℕ → List Record → ℕ
-greatest_received plane graph link past = register plane (moments_of (own graph (head_of graph link) past)) link
+greatest_received plane graph link past =
+    register plane (moments_of graph (head_of graph link) (own graph (head_of graph link) past)) link
 
 -- each field that waits on the link or was received on it is at most what its tail promises now
 pub record AreFieldsPromised (plane : Plane) (graph : Graph) (link : ℕ) (past : List Record) : Type 0 where

@@ -3,7 +3,7 @@ use Rattle.std.specs.Prelude.{◌≡◌, ◌⊎◌, ℕ, ◌<◌, List, [], ◌�
 use Rattle.pipe_base.specs.declared.message.Entry.{Entry}
 use Rattle.pipe_base.specs.declared.message.Service.{Service}
 use Rattle.pipe_base.specs.declared.step.Outcome.TheVariants.{Ok}
-use Rattle.pipe_base.specs.Graph.{Graph}
+use Rattle.pipe_graph.specs.Graph.{Graph}
 use Rattle.pipe_base.specs.Messages.{Before}
 use Rattle.pipe_model.specs.declared.event.Event.{Event}
 use Rattle.pipe_model.specs.declared.event.Event.TheVariants.{Send}
@@ -18,7 +18,8 @@ IsRising (e ∷ es) = All (λ f. Before e.key f.key) es × IsRising es
 
 -- Log order: each log of each host rises strictly by timestamp and sender.
 abbrev pub AreLogsOrdered : Graph → List Record → Type 0
-AreLogsOrdered graph past = (host : ℕ) → host < graph.hosts → (service : Service) → IsRising (log service (own graph host past))
+AreLogsOrdered graph past = (host : ℕ) → host < graph.hosts → (service : Service)
+    → IsRising (log service (own graph host past))
 
 -- the stamp is above all that the host has logged, in both logs
 abbrev pub IsAboveLogs : ℕ → List Record → Type 0
@@ -35,7 +36,8 @@ AreStampsCausal graph past = (host : ℕ) → host < graph.hosts → IsCausal (o
 
 -- a send of this service by the entry's sender, which lists the host with the entry's body
 abbrev pub IsSendTo : Service → ℕ → Entry → Event → Type 0
-IsSendTo service host entry (Send src sent now dests) = (service ≡ sent) × ((src ≡ entry.key.src) × Contains dests (record { 0 = host }, entry.body))
+IsSendTo service host entry (Send src sent now dests) = (service ≡ sent)
+    × ((src ≡ entry.key.src) × Contains dests (record { 0 = host }, entry.body))
 IsSendTo service host entry _ = ⊥
 
 -- the record is a send by the entry's sender that was accepted, stamped with its timestamp, and lists the host with its body
@@ -57,4 +59,5 @@ LoggedWasSent graph node service r past =
 -- Genuineness: what is logged was sent before, to that host and with that body.
 abbrev pub IsGenuine : Graph → List Record → Type 0
 IsGenuine graph [] = Unit {0}
-IsGenuine graph (r ∷ past) = IsGenuine graph past × ((node : ℕ) (service : Service) → LoggedWasSent graph node service r past)
+IsGenuine graph (r ∷ past) = IsGenuine graph past × ((node : ℕ) (service : Service)
+    → LoggedWasSent graph node service r past)

@@ -8,7 +8,7 @@ use Rattle.pipe_base.specs.declared.name.LinkId.{LinkId}
 use Rattle.pipe_base.specs.declared.packet.Packet.{Packet}
 use Rattle.pipe_base.specs.declared.step.Outcome.{Outcome}
 use Rattle.pipe_base.specs.declared.step.Outcome.TheVariants.{Ok, NoItem, Crashed}
-use Rattle.pipe_base.specs.Graph.{Graph, head_of}
+use Rattle.pipe_graph.specs.Graph.{Graph, head_of}
 use Rattle.pipe_model.specs.declared.event.Event.{Event}
 use Rattle.pipe_model.specs.declared.event.Event.TheVariants.{Send, Tick, Take, Lose, ControlTake, ControlLose, Decide, Crash, Cut}
 use Rattle.pipe_model.specs.declared.record.Record.{Record}
@@ -32,7 +32,8 @@ place_outcome place waiting outcome = if nat_lt place (length waiting) then outc
 
 -- the outcome at the acting node: nothing happens where it has crashed, else the node answers
 abbrev pub outcome_at : Graph → List Record → Event → ℕ → Outcome
-outcome_at graph past event node = if has_crashed node past then Crashed else own_outcome graph node (own graph node past) event
+outcome_at graph past event node =
+    if has_crashed node past then Crashed else own_outcome graph node (own graph node past) event
 
 -- the outcome where a control message goes: the controller does not crash
 abbrev pub outcome_to : Graph → List Record → Event → To → Outcome
@@ -47,9 +48,11 @@ message_outcome graph past event (Some a) = outcome_to graph past event a.to
 abbrev pub outcome_of : Graph → List Record → Event → Outcome
 outcome_of graph past (Send host service now dests) = outcome_at graph past (Send host service now dests) host.0
 outcome_of graph past (Tick node now) = outcome_at graph past (Tick node now) node.0
-outcome_of graph past (Take link place keep) = place_outcome place (waiting_on link.0 past) (outcome_at graph past (Take link place keep) (head_of graph link.0))
+outcome_of graph past (Take link place keep) =
+    place_outcome place (waiting_on link.0 past) (outcome_at graph past (Take link place keep) (head_of graph link.0))
 outcome_of graph past (Lose link place) = place_outcome place (waiting_on link.0 past) Ok
-outcome_of graph past (ControlTake place keep) = message_outcome graph past (ControlTake place keep) (slice_get (waiting_control past) place)
+outcome_of graph past (ControlTake place keep) =
+    message_outcome graph past (ControlTake place keep) (slice_get (waiting_control past) place)
 outcome_of graph past (ControlLose place) = place_outcome place (waiting_control past) Ok
 outcome_of graph past Decide = Ok
 outcome_of graph past (Crash node) = outcome_at graph past (Crash node) node.0

@@ -9,8 +9,8 @@ use Rattle.pipe_base.specs.declared.step.Outcome.{Outcome}
 use Rattle.pipe_base.specs.declared.step.Outcome.TheVariants.{Ok, ClockEnd, DestFailed, Ignored, Window}
 use Rattle.pipe_base.specs.Clock.{stamp_at}
 use Rattle.pipe_base.specs.Failed.{is_announced}
-use Rattle.pipe_base.specs.Graph.{Graph}
-use Rattle.pipe_base.specs.Limits.{last_stamp, most_unsettled}
+use Rattle.pipe_graph.specs.Graph.{Graph}
+use Rattle.pipe_base.specs.Limits.{most_unsettled}
 use Rattle.pipe_base.specs.Moment.{is_up}
 use Rattle.pipe_base.specs.Scattering.{Scattering}
 use Rattle.pipe_base.specs.Settled.{unsettled}
@@ -32,20 +32,20 @@ is_window_full BestEffort pending = false
 is_window_full Reliable pending = nat_le most_unsettled (length pending)
 
 -- a send past the end of the clock is refused
-abbrev pub clock_outcome : ℕ → ℕ → Outcome
-clock_outcome now next = if nat_le (stamp_at now next) last_stamp then Ok else ClockEnd (record { 0 = next })
+abbrev pub clock_outcome : ℕ → ℕ → ℕ → Outcome
+clock_outcome top now next = if nat_le (stamp_at now next) top then Ok else ClockEnd (record { 0 = next })
 
 -- The first refusal of a send that holds: a failed receiver, a full window, the end of the clock. Ok where there is none.
-abbrev pub send_outcome : Option HostId → Bool → ℕ → ℕ → Outcome
-send_outcome (Some failed) full now next = DestFailed failed
-send_outcome None full now next = if full then Window most_unsettled else clock_outcome now next
+abbrev pub send_outcome : Option HostId → Bool → ℕ → ℕ → ℕ → Outcome
+send_outcome (Some failed) full top now next = DestFailed failed
+send_outcome None full top now next = if full then Window most_unsettled else clock_outcome top now next
 
 -- what the acting node answers, by its own records: the refusals of a send in their order, Ignored for a take on a link that
 -- is not up, Ok for all else
 abbrev pub own_outcome : Graph → ℕ → List Record → Event → Outcome
 own_outcome graph node own (Send host service now dests) =
-    send_outcome (first_failed (noted_hosts own) dests) (is_window_full service (unsettled (sender_calls graph node own))) now.0 (next own)
-own_outcome graph node own (Take link place keep) = if is_up (moments_of own) link.0 then Ok else Ignored
+    send_outcome (first_failed (noted_hosts own) dests) (is_window_full service (unsettled (sender_calls graph node own))) graph.top now.0 (next graph node own)
+own_outcome graph node own (Take link place keep) = if is_up (moments_of graph node own) link.0 then Ok else Ignored
 own_outcome graph node own _ = Ok
 
 -- a stamp where the outcome is Ok
@@ -56,5 +56,5 @@ where_ok _ stamp = None
 -- what a record stamps: a send that is not refused
 abbrev pub stamped : Graph → ℕ → List Record → Event → Option Ts
 stamped graph node own (Send host service now dests) =
-    where_ok (own_outcome graph node own (Send host service now dests)) (stamp_at now.0 (next own))
+    where_ok (own_outcome graph node own (Send host service now dests)) (stamp_at now.0 (next graph node own))
 stamped graph node own _ = None

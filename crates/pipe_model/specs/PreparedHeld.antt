@@ -1,6 +1,6 @@
 -- What a prepared scattering tells: each of its receivers held its message.
 use Rattle.std.specs.Prelude.{◌≡◌, ℕ, true, List, All}
-use Rattle.pipe_base.specs.Graph.{Graph}
+use Rattle.pipe_graph.specs.Graph.{Graph}
 use Rattle.pipe_base.specs.Scattering.{Scattering, SenderCall, begun}
 use Rattle.pipe_base.specs.Settled.{is_prepared}
 use Rattle.pipe_model.specs.declared.record.Record.{Record}
@@ -10,7 +10,8 @@ use Rattle.pipe_model.specs.Sender.{sender_calls}
 
 -- each receiver of a scattering of the host held its message
 abbrev pub IsHeldByAll : Graph → ℕ → List Record → Scattering → Type 0
-IsHeldByAll graph host past s = All (λ d. HasHeld graph d.0.0 (record { ts = s.ts; src = record { 0 = host } }) past) s.dests
+IsHeldByAll graph host past s =
+    All (λ d. HasHeld graph d.0.0 (record { ts = s.ts; src = record { 0 = host } }) past) s.dests
 
 -- the host's scatterings that are prepared are held by all
 abbrev pub AreHeldOf : Graph → ℕ → List Record → List SenderCall → Type 0

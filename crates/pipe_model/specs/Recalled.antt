@@ -2,7 +2,7 @@
 -- told so.
 use Rattle.std.specs.Prelude.{◌≡◌, ℕ, true, List, All}
 use Rattle.pipe_base.specs.declared.packet.Packet.{Packet}
-use Rattle.pipe_base.specs.Graph.{Graph}
+use Rattle.pipe_graph.specs.Graph.{Graph}
 use Rattle.pipe_base.specs.Scattering.{SenderCall, begun, is_begun}
 use Rattle.pipe_base.specs.Settled.{is_recalled}
 use Rattle.pipe_model.specs.declared.record.Record.{Record}
@@ -18,7 +18,8 @@ pub record IsTakenBack (calls : List SenderCall) (ts : ℕ) : Type 0 where
 
 -- a message is taken back only where its sender recalls the scattering
 abbrev pub IsRecallTrue : Graph → List Record → Packet → Type 0
-IsRecallTrue graph past p = is_recall p.kind ≡ true → IsTakenBack (sender_calls graph p.src.0 (own graph p.src.0 past)) p.ts.0
+IsRecallTrue graph past p = is_recall p.kind ≡ true
+    → IsTakenBack (sender_calls graph p.src.0 (own graph p.src.0 past)) p.ts.0
 
 -- Recalls are true: each that waits on a link or was received means that its scattering is recalled.
 abbrev pub AreRecallsTrue : Graph → List Record → Type 0
@@ -26,7 +27,8 @@ AreRecallsTrue graph past = OfAllPackets (IsRecallTrue graph past) graph past
 
 -- the answer to a recall comes from a host that got the recall
 abbrev pub IsRecallAckTrue : Graph → List Record → Packet → Type 0
-IsRecallAckTrue graph past p = is_recall_ack p.kind ≡ true → got_recall graph p.src.0 (record { ts = p.ts; src = p.dst }) (own graph p.src.0 past) ≡ true
+IsRecallAckTrue graph past p = is_recall_ack p.kind ≡ true
+    → got_recall graph p.src.0 (record { ts = p.ts; src = p.dst }) (own graph p.src.0 past) ≡ true
 
 -- Answers to recalls are true: each that waits on a link or was received means that its sender was told to take the message back.
 abbrev pub AreRecallAcksTrue : Graph → List Record → Type 0

@@ -5,7 +5,7 @@ use Rattle.pipe_base.specs.declared.packet.Packet.{Packet}
 use Rattle.pipe_base.specs.declared.packet.PacketKind.{PacketKind}
 use Rattle.pipe_base.specs.declared.packet.PacketKind.TheVariants.{Recall}
 use Rattle.pipe_base.specs.declared.packet.Plane.TheVariants.{Commit}
-use Rattle.pipe_base.specs.Graph.{Graph}
+use Rattle.pipe_graph.specs.Graph.{Graph}
 use Rattle.pipe_base.specs.Messages.{same_key}
 use Rattle.pipe_model.specs.declared.record.Record.{Record}
 use Rattle.pipe_model.specs.Got.{gets, key_of}
@@ -29,4 +29,5 @@ got_recall graph host key (r ∷ own) = takes_back key (gets graph host own r) |
 abbrev pub recalled_in_time : Graph → ℕ → Key → List Record → Bool
 recalled_in_time graph host key [] = false
 recalled_in_time graph host key (r ∷ own) =
-    (takes_back key (gets graph host own r) && nat_le (barrier_at Commit graph host own) key.ts.0) || recalled_in_time graph host key own
+    (takes_back key (gets graph host own r) && nat_le (barrier_at Commit graph host own) key.ts.0)
+    || recalled_in_time graph host key own

@@ -1,6 +1,6 @@
 -- A run: what each record must be, given those before it.
 use Rattle.std.specs.Prelude.{◌≡◌, ℕ, true, false, List, [], ◌∷◌, map, reverse}
-use Rattle.pipe_base.specs.Graph.{Graph}
+use Rattle.pipe_graph.specs.Graph.{Graph}
 use Rattle.pipe_model.specs.declared.event.Event.{Event}
 use Rattle.pipe_model.specs.declared.record.Record.{Record}
 use Rattle.pipe_model.specs.Acting.{is_own, own}
@@ -35,7 +35,8 @@ IsNodeHistory graph node (r ∷ own) = IsNodeHistory graph node own × IsNodeSte
 pub record IsStep (graph : Graph) (past : List Record) (r : Record) : Type 0 where
   pub outcome_is : r.step.outcome ≡ outcome_of graph past r.event
   pub took_is : r.took ≡ took_of graph past r.event
-  pub nobodys : ((n : ℕ) → is_own graph n r ≡ false) → r.step ≡ nobodys_step graph (view graph past) r.event r.step.outcome
+  pub nobodys : ((n : ℕ) → is_own graph n r ≡ false)
+      → r.step ≡ nobodys_step graph (view graph past) r.event r.step.outcome
   pub node : (n : ℕ) → is_own graph n r ≡ true → IsNodeStep graph n (own graph n past) r
 
 -- a history: the records so far, newest first

@@ -6,7 +6,7 @@ use Rattle.pipe_base.specs.declared.name.Ts.{Ts}
 use Rattle.pipe_base.specs.declared.packet.Packet.{Packet}
 use Rattle.pipe_base.specs.declared.packet.PacketKind.{PacketKind}
 use Rattle.pipe_base.specs.declared.packet.PacketKind.TheVariants.{Ack, RecallAck}
-use Rattle.pipe_base.specs.Graph.{Graph}
+use Rattle.pipe_graph.specs.Graph.{Graph}
 use Rattle.pipe_base.specs.Scattering.{SenderCall, Began, Acked, Noted, RecallAcked}
 use Rattle.pipe_model.specs.declared.event.Event.{Event}
 use Rattle.pipe_model.specs.declared.event.Event.TheVariants.{Send}

@@ -8,8 +8,8 @@ use Rattle.pipe_base.specs.declared.name.LinkId.{LinkId}
 use Rattle.pipe_base.specs.declared.name.NodeId.{NodeId}
 use Rattle.pipe_base.specs.declared.name.Ts.{Ts}
 use Rattle.pipe_base.specs.Failed.{is_announced}
-use Rattle.pipe_base.specs.Graph.{Graph, is_host}
-use Rattle.pipe_base.specs.Reported.{unreported}
+use Rattle.pipe_graph.specs.Graph.{Graph, is_host}
+use Rattle.pipe_graph.specs.Reported.{unreported}
 
 -- Sets of hosts and links are tests on their numbers. A live link is one that is not known as dead; a report is the value of a
 -- link that went down. The lists are in the order of the decisions. Of each host is kept how many announced hosts it said that
@@ -60,12 +60,14 @@ with_count number count counts n = if n == number then max (counts n) count else
 
 -- a member noted so many of the announced hosts
 abbrev pub with_done : HostId → ℕ → View → View
-with_done host count v = if v.members host.0 && nat_le count (length v.announced) then record v { done = with_count host.0 count v.done } else v
+with_done host count v = if v.members host.0
+    && nat_le count (length v.announced) then record v { done = with_count host.0 count v.done } else v
 
 -- a node knows so many of the dropped links
 abbrev pub with_gone : Graph → NodeId → ℕ → View → View
 with_gone graph node count v =
-    if nat_lt node.0 graph.nodes && nat_le count (length v.dropped) then record v { gone = with_count node.0 count v.gone } else v
+    if nat_lt node.0 graph.nodes
+    && nat_le count (length v.dropped) then record v { gone = with_count node.0 count v.gone } else v
 
 -- what a control message tells the controller
 abbrev pub after_message : Graph → Control → View → View

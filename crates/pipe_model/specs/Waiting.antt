@@ -21,8 +21,10 @@ takes_out keep outcome = not keep && not (is_idle outcome)
 
 -- what an event leaves of the packets that waited on a link
 abbrev pub left_after : ℕ → Event → Outcome → List Packet → List Packet
-left_after link (Take l place keep) outcome waiting = if (l.0 == link) && takes_out keep outcome then remove waiting place else waiting
-left_after link (Lose l place) outcome waiting = if (l.0 == link) && is_ok outcome then remove waiting place else waiting
+left_after link (Take l place keep) outcome waiting = if (l.0 == link)
+    && takes_out keep outcome then remove waiting place else waiting
+left_after link (Lose l place) outcome waiting = if (l.0 == link)
+    && is_ok outcome then remove waiting place else waiting
 left_after link _ outcome waiting = waiting
 
 -- the packets that were put on a link, in order

@@ -8,11 +8,11 @@ use Rattle.pipe_base.specs.declared.message.Entry.{Entry}
 use Rattle.pipe_base.specs.declared.message.Key.{Key}
 use Rattle.pipe_base.specs.declared.message.Service.TheVariants.{Reliable}
 use Rattle.pipe_base.specs.Failed.{is_void}
-use Rattle.pipe_base.specs.Graph.{Graph}
+use Rattle.pipe_graph.specs.Graph.{Graph}
 use Rattle.pipe_base.specs.Messages.{same_key}
 use Rattle.pipe_base.specs.Scattering.{Scattering, SenderCall}
 use Rattle.pipe_base.specs.Settled.{is_noted, is_recalled, is_settled}
-use Rattle.pipe_base.specs.Reach.{JoinsAllHosts}
+use Rattle.pipe_graph.specs.Reach.{JoinsAllHosts}
 use Rattle.pipe_model.specs.declared.record.Record.{Record}
 use Rattle.pipe_model.specs.Acting.{own}
 use Rattle.pipe_model.specs.AllOrNone.{IsAllOrNone, IsInAllOrNone, IsPassed, key_from}

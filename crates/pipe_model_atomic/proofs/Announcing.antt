@@ -11,10 +11,10 @@ use Rattle.std.proofs.lemmas.List.Sums.{AllPass-from_list_all}
 use Rattle.pipe_base.specs.declared.control.Announced.{Announced}
 use Rattle.pipe_base.specs.declared.name.HostId.{HostId}
 use Rattle.pipe_base.specs.declared.name.Ts.{Ts}
-use Rattle.pipe_base.specs.Cut.{is_cut}
-use Rattle.pipe_base.specs.FailureTime.{failure_time}
+use Rattle.pipe_graph.specs.Cut.{is_cut}
+use Rattle.pipe_graph.specs.FailureTime.{failure_time}
 use Rattle.pipe_base.specs.Failed.{is_announced, time_of}
-use Rattle.pipe_base.specs.Graph.{Graph}
+use Rattle.pipe_graph.specs.Graph.{Graph}
 use Rattle.pipe_model.specs.Decision.{all_hosts, all_over, can_go, due_hosts, host_id, is_over, newly_announced, time_at, with_time}
 use Rattle.pipe_model.specs.View.{View, intact, is_due, is_kept}
 

@@ -7,14 +7,14 @@ use Rattle.pipe_base.specs.declared.name.Ts.{Ts}
 use Rattle.pipe_base.specs.declared.packet.Plane.TheVariants.{Commit}
 use Rattle.pipe_base.specs.Barrier.{register}
 use Rattle.pipe_base.specs.Failed.{is_announced, time_of}
-use Rattle.pipe_base.specs.Graph.{Graph, head_of, ins_of, is_half, is_host, tail_of}
-use Rattle.pipe_base.specs.Path.{IsPath, Leads, LeavesBy}
+use Rattle.pipe_graph.specs.Graph.{Graph, head_of, ins_of, is_half, is_host, tail_of}
+use Rattle.pipe_graph.specs.Path.{IsPath, Leads, LeavesBy}
 use Rattle.pipe_base.specs.Scattering.{Scattering}
 use Rattle.pipe_base.specs.Settled.{unsettled}
 use Rattle.pipe_base.proofs.BarrierLaws.{barrier-le_register}
-use Rattle.pipe_paths.proofs.PathLaws.{path_carries, path_split}
-use Rattle.pipe_paths.proofs.Rounds.{has_path}
-use Rattle.pipe_paths.proofs.Tests.{and_both}
+use Rattle.pipe_graph.proofs.PathLaws.{path_carries, path_split}
+use Rattle.pipe_graph.proofs.Rounds.{has_path}
+use Rattle.pipe_graph.proofs.Tests.{and_both}
 use Rattle.pipe_model.specs.declared.record.Record.{Record}
 use Rattle.pipe_model.specs.Acting.{own}
 use Rattle.pipe_model.specs.Clock.{promise}
@@ -45,10 +45,10 @@ promised_of graph past node = node_promise Commit graph node (own graph node pas
 
 -- a link that counts carries: the barrier at its head is at most what was received on it, and that at most what its tail promises
 live_received : (graph : Graph) (past : List Record) → Bounding graph past → (link : ℕ) → link < length graph.links → is_live graph past link ≡ true
-    → commit_of graph past (head_of graph link) ≤ register Commit (moments_of (own graph (head_of graph link) past)) link
+    → commit_of graph past (head_of graph link) ≤ register Commit (moments_of graph (head_of graph link) (own graph (head_of graph link) past)) link
 live_received graph past holds link lt live =
     let head : ℕ = head_of graph link in
-    barrier-le_register Commit (ins_of graph head) (moments_of (own graph head past)) link (comes_by graph head link lt refl) (holds.live_are_used link live)
+    barrier-le_register Commit (ins_of graph head) (moments_of graph head (own graph head past)) link (comes_by graph head link lt refl) (holds.live_are_used link live)
 
 live_carries : (graph : Graph) (past : List Record) → Bounding graph past → (link : ℕ) → link < length graph.links → is_live graph past link ≡ true
     → commit_of graph past (head_of graph link) ≤ promised_of graph past (tail_of graph link)
@@ -78,7 +78,7 @@ unsettled_above graph past holds sender host sender_in present member =
 
 -- a report is what was received on its link, now and later
 pub report_received : (graph : Graph) (past : List Record) → IsHistory graph past → Bounding graph past → (link : ℕ) (value : Ts) → (view graph past).reports link ≡ Some value
-    → register Commit (moments_of (own graph (head_of graph link) past)) link ≡ value.0
+    → register Commit (moments_of graph (head_of graph link) (own graph (head_of graph link) past)) link ≡ value.0
 report_received graph past run holds link value is =
     let head : ℕ = head_of graph link in
     mark_is_frozen graph head (own graph head past) link value (node_history graph head past run) (holds.reports_are_marks link value is).marked

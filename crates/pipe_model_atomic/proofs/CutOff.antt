@@ -9,11 +9,11 @@ use Rattle.pipe_base.specs.declared.control.Announced.{Announced}
 use Rattle.pipe_base.specs.declared.name.LinkId.{LinkId}
 use Rattle.pipe_base.specs.declared.name.Ts.{Ts}
 use Rattle.pipe_base.specs.Failed.{is_announced, time_of}
-use Rattle.pipe_base.specs.Graph.{Graph}
-use Rattle.pipe_base.specs.Reach.{reaches}
+use Rattle.pipe_graph.specs.Graph.{Graph}
+use Rattle.pipe_graph.specs.Reach.{reaches}
 use Rattle.pipe_failtime.proofs.CutLaws.{cut_reaches_none}
 use Rattle.pipe_failtime.proofs.TimeLaws.{time_in_words}
-use Rattle.pipe_paths.proofs.Tests.{and_both, not_from, not_is}
+use Rattle.pipe_graph.proofs.Tests.{and_both, not_from, not_is}
 use Rattle.pipe_model.specs.declared.record.Record.{Record}
 use Rattle.pipe_model.specs.Acting.{own}
 use Rattle.pipe_model.specs.Controller.{announced, view}
@@ -156,7 +156,7 @@ known_after graph past r host other time knows holds other_in =
     let v : View = view graph past in
     let P : View → Type 0 = IsKnownIn graph past host other time in
     let old : P v = λ is member other_member trusted. holds host other time is member (record { member = other_member; trusted = trusted }) in
-    view_after P graph r.event r.took v
+    view_after P graph r.event r.took r.step.outcome v
     (λ m took. record {
       down = λ link value told whole. known_reported graph past host other time v link value whole old;
       done = λ node count told. old;
@@ -208,7 +208,7 @@ keeps_gone_noted graph past r knows present holds host other is gone member =
     let old : P v = holds host other in
     let other_in : other < graph.hosts = member_in graph (r ∷ past) other member in
     announced_still host (noted_hosts (own graph other past)) (noted_hosts (own graph other (r ∷ past))) (noted_more graph past r other)
-    (view_after P graph r.event r.took v (untold P v r.took (λ link value. old) (λ node count. old) (λ node count. old))
+    (view_after P graph r.event r.took r.step.outcome v (untold P v r.took (λ link value. old) (λ node count. old) (λ node count. old))
     (λ decides. decision_after P graph v (noted_told graph past host other present old)
     (λ over told left stays. noted_all graph past knows host other other_in over stays told))
     old is gone member)

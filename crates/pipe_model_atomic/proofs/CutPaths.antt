@@ -2,12 +2,12 @@
 use Rattle.std.proofs.Common.{◌≡◌, ◌⊎◌, ℕ, ◌||◌, not, Bool, true, false, List, [], ◌∷◌, refl, inl, inr, sym, ◌∙◌, true≢false}
 use Rattle.std.specs.List.{list_any}
 use Rattle.pipe_base.specs.declared.name.Ts.{Ts}
-use Rattle.pipe_base.specs.Graph.{Graph, IsGraph, head_of}
-use Rattle.pipe_base.specs.Path.{IsPath, Leads, LeavesBy}
-use Rattle.pipe_base.specs.Reach.{reaches}
-use Rattle.pipe_paths.proofs.PathLaws.{path_more}
-use Rattle.pipe_paths.proofs.Rounds.{has_path, is_reach}
-use Rattle.pipe_paths.proofs.Tests.{and_both, and_parts, not_from, not_gives, not_is, or_left, or_right}
+use Rattle.pipe_graph.specs.Graph.{Graph, IsGraph, head_of}
+use Rattle.pipe_graph.specs.Path.{IsPath, Leads, LeavesBy}
+use Rattle.pipe_graph.specs.Reach.{reaches}
+use Rattle.pipe_graph.proofs.PathLaws.{path_more}
+use Rattle.pipe_graph.proofs.Rounds.{has_path, is_reach}
+use Rattle.pipe_graph.proofs.Tests.{and_both, and_parts, not_from, not_gives, not_is, or_left, or_right}
 use Rattle.pipe_model.specs.declared.record.Record.{Record}
 use Rattle.pipe_model.specs.Controller.{is_live, view}
 use Rattle.pipe_model_atomic.specs.NotedOrCutOff.{AreReportedPaths, IsCutOff, is_open, is_within}

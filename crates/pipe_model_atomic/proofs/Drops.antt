@@ -8,9 +8,9 @@ use Rattle.pipe_base.specs.declared.control.Addressed.{Addressed}
 use Rattle.pipe_base.specs.declared.control.Control.{Control}
 use Rattle.pipe_base.specs.declared.control.Control.TheVariants.{DropLinks}
 use Rattle.pipe_base.specs.declared.name.LinkId.{LinkId}
-use Rattle.pipe_base.specs.Graph.{Graph, all_links, head_of}
-use Rattle.pipe_base.specs.ShortestRoute.{not_dropped}
-use Rattle.pipe_paths.proofs.Tests.{not_gives, not_is}
+use Rattle.pipe_graph.specs.Graph.{Graph, all_links, head_of}
+use Rattle.pipe_graph.specs.Passable.{not_dropped}
+use Rattle.pipe_graph.proofs.Tests.{not_gives, not_is}
 use Rattle.pipe_model.specs.declared.event.Event.{Event}
 use Rattle.pipe_model.specs.declared.event.Event.TheVariants.{ControlTake}
 use Rattle.pipe_model.specs.declared.record.Record.{Record}
@@ -96,7 +96,7 @@ pub keeps_live_not_dropped : (graph : Graph) (past : List Record) (r : Record) �
 keeps_live_not_dropped graph past r before link =
     let v : View = view graph past in
     let P : View → Type 0 = λ w. w.live link ≡ true → not_dropped w.dropped link ≡ true in
-    view_after P graph r.event r.took v (untold P v r.took (λ l value. before link) (λ host count. before link) (λ node count. before link))
+    view_after P graph r.event r.took r.step.outcome v (untold P v r.took (λ l value. before link) (λ host count. before link) (λ node count. before link))
     (λ decides. decision_after P graph v (before link) (λ over. still_not graph (told_view graph v) link (before link))) (before link)
 
 -- so it is in use at its head
@@ -113,4 +113,4 @@ not_known known all link begins is =
 pub live_used : (graph : Graph) (past : List Record) → AreDropsKnownFirst graph past → AreLiveNotDropped graph past → AreLiveUsed graph past
 live_used graph past first undropped link live =
     let o : List Record = own graph (head_of graph link) past in
-    kept_by_drops o link ∙ not_known (known_drops o) (dropped graph past) link (first (head_of graph link)) (undropped link live)
+    kept_by_drops graph (head_of graph link) o link ∙ not_known (known_drops o) (dropped graph past) link (first (head_of graph link)) (undropped link live)

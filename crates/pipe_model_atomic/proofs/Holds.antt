@@ -1,8 +1,8 @@
 -- The sentences hold at every moment of a run.
 use Rattle.std.proofs.Common.{List, [], ◌∷◌, refl, sym, true≢false, arith}
 use Rattle.pipe_base.specs.declared.packet.Plane.TheVariants.{Commit}
-use Rattle.pipe_base.specs.Graph.{Graph}
-use Rattle.pipe_base.specs.Reach.{JoinsAllHosts}
+use Rattle.pipe_graph.specs.Graph.{Graph}
+use Rattle.pipe_graph.specs.Reach.{JoinsAllHosts}
 use Rattle.pipe_model.specs.declared.record.Record.{Record}
 use Rattle.pipe_model.specs.Run.{IsHistory}
 use Rattle.pipe_model_net.proofs.Prepared.{prepared_held}

@@ -12,9 +12,9 @@ use Rattle.pipe_base.specs.declared.packet.Packet.{Packet}
 use Rattle.pipe_base.specs.declared.step.Fate.TheVariants.{Discarded, Held, Late, Recalled, Repeat}
 use Rattle.pipe_base.specs.Failed.{is_announced, is_void, time_of}
 use Rattle.pipe_base.specs.Fate.{fate_among, fate_from}
-use Rattle.pipe_base.specs.Graph.{Graph}
+use Rattle.pipe_graph.specs.Graph.{Graph}
 use Rattle.pipe_base.specs.Messages.{Messages, entry_of, has_key}
-use Rattle.pipe_base.specs.Reach.{JoinsAllHosts}
+use Rattle.pipe_graph.specs.Reach.{JoinsAllHosts}
 use Rattle.pipe_base.specs.Scattering.{Scattering, SenderCall}
 use Rattle.pipe_base.specs.Settled.{is_noted, is_prepared, is_recall_acked, is_recalled, is_settled}
 use Rattle.pipe_model.specs.declared.record.Record.{Record}
@@ -176,7 +176,7 @@ late_known_at : (graph : Graph) (past : List Record) (r : Record) (host : ℕ) (
 late_known_at graph past r host p joined run known step host_in trusted mine brings late =
     let e : Entry = entry_of (key_of p, p.body) in
     let holds : Sentences graph past = sentences_hold graph past joined run in
-    let sent : WasSent Reliable host e past = got_sent Reliable graph past r host (received (own graph host past) r) p run step refl brings in
+    let sent : WasSent Reliable host e past = got_sent Reliable graph past r host (received graph host (own graph host past) r) p run step refl brings in
     late_known_by (is_void (announced graph past) e.key) graph past host e run holds
     (record { member = holds.bounding.present_are_members host host_in trusted; trusted = trusted }) host_in
     (sender_in graph past host e known sent) refl (sent_begun graph past host e sent) (late_below graph past r host p step mine brings late)

@@ -2,17 +2,17 @@
 -- that stay are partners by the links without reports, and every host that leaves was announced.
 use Rattle.std.proofs.Common.{◌≡◌, ℕ, ◌<◌, ◌||◌, nat_lt, not, Bool, true, false, List, [], ◌∷◌, length, refl, inl, inr, sym, ◌∙◌, true≢false, arith}
 use Rattle.std.proofs.lemmas.Bool.Decides.{nat_tests}
-use Rattle.pipe_base.specs.Doomed.{is_left}
+use Rattle.pipe_graph.specs.Doomed.{is_left}
 use Rattle.pipe_base.specs.Failed.{is_announced}
-use Rattle.pipe_base.specs.Graph.{Graph, is_host}
-use Rattle.pipe_base.specs.Path.{every_link}
-use Rattle.pipe_base.specs.Reach.{JoinsAllHosts, reaches}
-use Rattle.pipe_base.specs.Reported.{is_reported}
-use Rattle.pipe_base.specs.Useless.{is_useless}
+use Rattle.pipe_graph.specs.Graph.{Graph, is_host}
+use Rattle.pipe_graph.specs.Path.{every_link}
+use Rattle.pipe_graph.specs.Reach.{JoinsAllHosts, reaches}
+use Rattle.pipe_graph.specs.Reported.{is_reported}
+use Rattle.pipe_graph.specs.Useless.{is_useless}
 use Rattle.pipe_failtime.proofs.RoundLaws.{kept_reach}
 use Rattle.pipe_failtime.proofs.UselessLaws.{useless_in_words}
-use Rattle.pipe_paths.proofs.ReachLaws.{reaches_alike}
-use Rattle.pipe_paths.proofs.Tests.{and_both, and_parts, not_from, not_gives, not_is, or_cases}
+use Rattle.pipe_graph.proofs.ReachLaws.{reaches_alike}
+use Rattle.pipe_graph.proofs.Tests.{and_both, and_parts, not_from, not_gives, not_is, or_cases}
 use Rattle.pipe_model.specs.declared.record.Record.{Record}
 use Rattle.pipe_model.specs.Controller.{is_live, view}
 use Rattle.pipe_model.specs.Decision.{after_doom, all_over, is_dead, newly_announced}
@@ -65,7 +65,7 @@ pub keeps_members_joined : (graph : Graph) (past : List Record) (r : Record) →
 keeps_members_joined graph past r before a b one other =
     let v : View = view graph past in
     let P : View → Type 0 = λ w. w.members a ≡ true → w.members b ≡ true → reaches graph w.live a b ≡ true in
-    view_after P graph r.event r.took v (untold P v r.took (λ link value. before a b) (λ host count. before a b) (λ node count. before a b))
+    view_after P graph r.event r.took r.step.outcome v (untold P v r.took (λ link value. before a b) (λ host count. before a b) (λ node count. before a b))
     (λ decides. decision_after P graph v (before a b) (λ over. stay_joined graph v a b (member_in graph (r ∷ past) a one) (member_in graph (r ∷ past) b other)))
     (before a b) one other
 
@@ -86,5 +86,5 @@ keeps_present_members graph past r before host host_in =
     let v : View = view graph past in
     let P : View → Type 0 = λ w. is_announced host w.announced ≡ false → w.members host ≡ true in
     let old : P v = before host host_in in
-    view_after P graph r.event r.took v (untold P v r.took (λ link value. old) (λ other count. old) (λ node count. old))
+    view_after P graph r.event r.took r.step.outcome v (untold P v r.took (λ link value. old) (λ other count. old) (λ node count. old))
     (λ decides. decision_after P graph v (λ trusted. old (trusted_told graph v host trusted)) (λ over. stays graph v host host_in old over)) old

@@ -4,7 +4,7 @@ use Rattle.pipe_base.specs.declared.control.Announced.{Announced}
 use Rattle.pipe_base.specs.declared.control.Addressed.{Addressed}
 use Rattle.pipe_base.specs.declared.control.Control.{Control}
 use Rattle.pipe_base.specs.declared.control.Control.TheVariants.{Notice}
-use Rattle.pipe_base.specs.Graph.{Graph, is_host}
+use Rattle.pipe_graph.specs.Graph.{Graph, is_host}
 use Rattle.pipe_model.specs.declared.event.Event.{Event}
 use Rattle.pipe_model.specs.declared.event.Event.TheVariants.{ControlTake}
 use Rattle.pipe_model.specs.declared.record.Record.{Record}

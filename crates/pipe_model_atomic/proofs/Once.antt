@@ -9,8 +9,8 @@ use Rattle.pipe_base.specs.declared.control.Announced.{Announced}
 use Rattle.pipe_base.specs.declared.name.HostId.{HostId}
 use Rattle.pipe_base.specs.declared.name.Ts.{Ts}
 use Rattle.pipe_base.specs.Failed.{is_announced}
-use Rattle.pipe_base.specs.Graph.{Graph}
-use Rattle.pipe_paths.proofs.Tests.{not_is}
+use Rattle.pipe_graph.specs.Graph.{Graph}
+use Rattle.pipe_graph.proofs.Tests.{not_is}
 use Rattle.pipe_model.specs.declared.record.Record.{Record}
 use Rattle.pipe_model.specs.Controller.{view}
 use Rattle.pipe_model.specs.Decision.{after_doom, can_go, due_hosts, host_id, newly_announced, time_at, with_time}
@@ -115,5 +115,5 @@ keeps_announced_once graph past r before =
     let v : View = view graph past in
     let P : View → Type 0 = λ w. AllPairs Differ w.announced in
     let more : P (told_view graph v) = once_more graph (after_doom graph v) before in
-    view_after P graph r.event r.took v (untold P v r.took (λ link value. before) (λ host count. before) (λ node count. before))
+    view_after P graph r.event r.took r.step.outcome v (untold P v r.took (λ link value. before) (λ host count. before) (λ node count. before))
     (λ decides. decision_after P graph v more (λ over. more)) before

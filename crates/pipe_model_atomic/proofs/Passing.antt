@@ -3,10 +3,10 @@
 use Rattle.std.proofs.Common.{◌≡◌, ℕ, ◌<◌, ◌≤◌, not, Bool, true, false, List, get_or, length, refl, ap, arith}
 use Rattle.std.specs.List.{All}
 use Rattle.pipe_base.specs.Failed.{is_announced, is_void}
-use Rattle.pipe_base.specs.Graph.{Graph}
+use Rattle.pipe_graph.specs.Graph.{Graph}
 use Rattle.pipe_base.specs.Scattering.{Scattering, SenderCall, begun}
 use Rattle.pipe_base.specs.Settled.{is_settled}
-use Rattle.pipe_paths.proofs.Listed.{filter_all}
+use Rattle.pipe_graph.proofs.Listed.{filter_all}
 use Rattle.pipe_model.specs.declared.record.Record.{Record}
 use Rattle.pipe_model.specs.Acting.{own}
 use Rattle.pipe_model.specs.AllOrNone.{key_from}

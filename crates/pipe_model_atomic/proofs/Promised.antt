@@ -3,10 +3,10 @@ use Rattle.std.proofs.Common.{◌≡◌, ℕ, ◌≤◌, ◌==◌, ◌&&◌, Boo
 use Rattle.std.proofs.lemmas.Bool.{and_parts, or_cases}
 use Rattle.pipe_base.specs.declared.name.Ts.{Ts}
 use Rattle.pipe_base.specs.Failed.{is_announced, time_of}
-use Rattle.pipe_base.specs.Graph.{Graph, is_half, tail_of}
-use Rattle.pipe_base.specs.Reach.{feeds, reaches}
+use Rattle.pipe_graph.specs.Graph.{Graph, is_half, tail_of}
+use Rattle.pipe_graph.specs.Reach.{feeds, reaches}
 use Rattle.pipe_failtime.proofs.TimeLaws.{time_in_words}
-use Rattle.pipe_paths.proofs.Rounds.{has_path}
+use Rattle.pipe_graph.proofs.Rounds.{has_path}
 use Rattle.pipe_model.specs.declared.record.Record.{Record}
 use Rattle.pipe_model.specs.Acting.{is_own, own}
 use Rattle.pipe_model.specs.Clock.{promise}
@@ -72,7 +72,7 @@ time_promised false graph past r host time run holds promised wasnt is =
     new_promised graph past run holds host time
     (time_gives (IsGoing graph (after_doom graph v)) host time (newly_announced graph (after_doom graph v)) (newly_going graph (after_doom graph v))
     (sym (time_after host v.announced (newly_announced graph (after_doom graph v)) wasnt) ∙ told)) in
-    view_after P graph r.event r.took v (untold P v r.took (λ link value. never) (λ other count. never) (λ node count. never))
+    view_after P graph r.event r.took r.step.outcome v (untold P v r.took (λ link value. never) (λ other count. never) (λ node count. never))
     (λ decides. decision_after P graph v new (λ over. new)) never is
 
 pub keeps_times_promised : (graph : Graph) (past : List Record) (r : Record) → IsHistory graph (r ∷ past) → Bounding graph past → AreTimesPromised graph past

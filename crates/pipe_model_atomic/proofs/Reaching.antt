@@ -1,11 +1,11 @@
 -- Who reaches whom by which links.
 use Rattle.std.proofs.Common.{◌≡◌, ℕ, ◌+◌, ◌<◌, ◌≤◌, ◌==◌, ◌&&◌, Bool, true, false, List, [], ◌∷◌, ◌++◌, length, refl, sym, subst, ◌∙◌, eq-eqb, length-append, true≢false, arith}
-use Rattle.pipe_base.specs.Graph.{Graph, head_of, is_half, tail_of}
-use Rattle.pipe_base.specs.Path.{IsPath, LeavesBy, Leads}
-use Rattle.pipe_base.specs.Reach.{feeds, leads_within, reaches}
-use Rattle.pipe_paths.proofs.PathLaws.{HasAll, leads_more, path_append}
-use Rattle.pipe_paths.proofs.ReachLaws.{goes_on_from, goes_on_gives, leads_is_within, within_leads}
-use Rattle.pipe_paths.proofs.Tests.{and_both, not_from, or_left, or_right}
+use Rattle.pipe_graph.specs.Graph.{Graph, head_of, is_half, tail_of}
+use Rattle.pipe_graph.specs.Path.{IsPath, LeavesBy, Leads}
+use Rattle.pipe_graph.specs.Reach.{feeds, leads_within, reaches}
+use Rattle.pipe_graph.proofs.PathLaws.{HasAll, leads_more, path_append}
+use Rattle.pipe_graph.proofs.ReachLaws.{goes_on_from, goes_on_gives, leads_is_within, within_leads}
+use Rattle.pipe_graph.proofs.Tests.{and_both, not_from, or_left, or_right}
 
 -- a way from one node to another that is short enough for the test
 pub record IsWay (graph : Graph) (by : ℕ → Bool) (start end : ℕ) : Type 0 where

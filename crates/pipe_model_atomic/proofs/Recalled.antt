@@ -12,7 +12,7 @@ use Rattle.pipe_base.specs.declared.name.HostId.{HostId}
 use Rattle.pipe_base.specs.declared.name.Ts.{Ts}
 use Rattle.pipe_base.specs.declared.packet.Packet.{Packet}
 use Rattle.pipe_base.specs.Failed.{is_void}
-use Rattle.pipe_base.specs.Graph.{Graph}
+use Rattle.pipe_graph.specs.Graph.{Graph}
 use Rattle.pipe_base.specs.Scattering.{Scattering, SenderCall, Acked, Began, Noted, RecallAcked, begun, is_begun}
 use Rattle.pipe_base.specs.Settled.{awaits, has_failed, is_noted, is_prepared, is_recall_acked, is_recalled, is_settled}
 use Rattle.pipe_model.specs.declared.event.Event.{Event}
@@ -158,7 +158,7 @@ fresh_unanswered : (graph : Graph) (node : ℕ) (own : List Record) (r : Record)
     → is_recall_acked (sender_calls graph node (r ∷ own)) s host ≡ true → ⊥
 fresh_unanswered graph node own r s host step stamp is =
     let calls : List SenderCall = sender_calls graph node own in
-    let above : next own ≤ s.ts.0 = stamp_above graph node own r.event s.ts (sym step.stamped_is ∙ stamp) in
+    let above : next graph node own ≤ s.ts.0 = stamp_above graph node own r.event s.ts (sym step.stamped_is ∙ stamp) in
     let below : All (λ (x : Scattering). x.ts.0 < s.ts.0) (begun calls) = λ k d lt. let low = begun_below_next graph node own k d lt in omega (arith, low, above) in
     elim (answered_now graph node own r s host is) [
       | inl before ↦ none_begun s.ts.0 (begun calls) below (answered_begun calls s host before)
@@ -173,8 +173,8 @@ answer_got : (graph : Graph) (past : List Record) (r : Record) (sender host : �
 answer_got graph past r sender host s run answer =
     let o : List Record = own graph sender past in
     let p : Packet = answer.packet in
-    let w = is_got graph sender (received o r) p answer.brought in
-    let took = received_took (moments_of o) r.event r.took (w.link, p) w.received_is in
+    let w = is_got graph sender (received graph sender o r) p answer.brought in
+    let took = received_took (moments_of graph sender o) r.event r.took (w.link, p) w.received_is in
     let waited = took_waited graph past r took.0 p run.1 took.1 in
     let holds : IsRecallAckTrue graph past p =
     at_place (IsRecallAckTrue graph past) (waiting_on waited.link past) waited.place p ((recall_acks_true graph past run.0).waiting waited.link) waited.waited in

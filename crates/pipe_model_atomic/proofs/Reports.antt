@@ -6,7 +6,7 @@ use Rattle.pipe_base.specs.declared.control.Addressed.{Addressed}
 use Rattle.pipe_base.specs.declared.control.Control.TheVariants.{Down}
 use Rattle.pipe_base.specs.declared.name.LinkId.{LinkId}
 use Rattle.pipe_base.specs.declared.name.Ts.{Ts}
-use Rattle.pipe_base.specs.Graph.{Graph, head_of}
+use Rattle.pipe_graph.specs.Graph.{Graph, head_of}
 use Rattle.pipe_model.specs.declared.record.Record.{Record}
 use Rattle.pipe_model.specs.declared.record.Took.TheVariants.{Message}
 use Rattle.pipe_model.specs.Acting.{is_own, own}
@@ -54,7 +54,7 @@ keeps_reports_marks graph past r run before link value is =
     let P : View → Type 0 = λ w. w.reports link ≡ Some value → IsTrueFor graph past w link value in
     let old : P v = λ known. let at = before link value known in (at.live, at.marked) in
     let now : IsTrueFor graph past (view graph (r ∷ past)) link value =
-    view_after P graph r.event r.took v
+    view_after P graph r.event r.took r.step.outcome v
     (λ m took. record {
       down = λ told known down whole.
           reported_true (IsTrueFor graph past v) (link == told.0) told.0 link known value (v.reports link) refl (told_true graph past r m told known run took down whole) old;

@@ -8,11 +8,11 @@ use Rattle.std.proofs.lemmas.List.Folds.{list_any_at}
 use Rattle.pipe_base.specs.declared.message.Key.{Key}
 use Rattle.pipe_base.specs.declared.name.HostId.{HostId}
 use Rattle.pipe_base.specs.declared.packet.Packet.{Packet}
-use Rattle.pipe_base.specs.Graph.{Graph}
+use Rattle.pipe_graph.specs.Graph.{Graph}
 use Rattle.pipe_base.specs.Messages.{same_key}
 use Rattle.pipe_base.specs.Scattering.{Scattering, SenderCall}
 use Rattle.pipe_base.specs.Settled.{awaits, is_noted, is_prepared, is_recall_acked, is_recalled, is_settled}
-use Rattle.pipe_paths.proofs.Tests.{not_from}
+use Rattle.pipe_graph.proofs.Tests.{not_from}
 use Rattle.pipe_model.specs.declared.record.Record.{Record}
 use Rattle.pipe_model.specs.Acting.{own}
 use Rattle.pipe_model.specs.AllOrNone.{key_from}
@@ -72,13 +72,13 @@ back_now graph past key (Some p) holds is =
 abbrev Receipt : Graph → List Record → (ℕ × Packet) → Type 0
 Receipt graph past q = IsRecallTrue graph past q.1
 
-got_back : (graph : Graph) (past : List Record) (host : ℕ) (key : Key) (own : List Record) → All (Receipt graph past) (receipts own) → got_recall graph host key own ≡ true → IsBack graph past key
+got_back : (graph : Graph) (past : List Record) (host : ℕ) (key : Key) (own : List Record) → All (Receipt graph past) (receipts graph host own) → got_recall graph host key own ≡ true → IsBack graph past key
 got_back graph past host key [] all is = absurd (true≢false (sym is))
 got_back graph past host key (r ∷ own) all is =
     elim (or_cases (takes_back key (gets graph host own r)) (got_recall graph host key own) is) [
       | inl now ↦ back_now graph past key (gets graph host own r)
-          (λ p got. let w = is_got graph host (received own r) p got in newest (Receipt graph past) (received own r) (w.link, p) (receipts own) w.received_is all) now
-      | inr before ↦ got_back graph past host key own (rest_of (Receipt graph past) (received own r) (receipts own) all) before
+          (λ p got. let w = is_got graph host (received graph host own r) p got in newest (Receipt graph past) (received graph host own r) (w.link, p) (receipts graph host own) w.received_is all) now
+      | inr before ↦ got_back graph past host key own (rest_of (Receipt graph past) (received graph host own r) (receipts graph host own) all) before
     ]
 
 pub not_taken_back : (graph : Graph) (past : List Record) (sender host : ℕ) (s : Scattering) → IsHistory graph past → Contains (begun_by graph past sender) s

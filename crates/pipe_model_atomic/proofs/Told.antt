@@ -13,9 +13,9 @@ use Rattle.pipe_base.specs.declared.name.NodeId.{NodeId}
 use Rattle.pipe_base.specs.declared.name.Ts.{Ts}
 use Rattle.pipe_base.specs.declared.step.Outcome.{Outcome}
 use Rattle.pipe_base.specs.declared.step.Step.{Step}
-use Rattle.pipe_base.specs.Graph.{Graph, ins_of, is_host}
+use Rattle.pipe_graph.specs.Graph.{Graph, ins_of, is_host}
 use Rattle.pipe_base.specs.Settled.{is_recalling}
-use Rattle.pipe_base.specs.ShortestRoute.{not_dropped}
+use Rattle.pipe_graph.specs.Passable.{not_dropped}
 use Rattle.pipe_model.specs.declared.event.Event.{Event}
 use Rattle.pipe_model.specs.declared.event.Event.TheVariants.{Decide, Tick}
 use Rattle.pipe_model.specs.declared.record.Record.{Record}
@@ -89,11 +89,11 @@ decided_true graph past (Freeze link) holds = tt
 decided_true graph past _ holds = absurd holds
 
 nobody_tells : (graph : Graph) (v : View) (event : Event) (took : Took) (outcome : Outcome)
-    → All (λ m. IsDecided (after_event graph event took v) m.control) (nobodys_step graph v event outcome).control
+    → All (λ m. IsDecided (after_event graph event took outcome v) m.control) (nobodys_step graph v event outcome).control
 nobody_tells graph v Decide took outcome =
     let w : View = after_decision graph v in
     messages_each (λ (m : Addressed). IsDecided w m.control) graph w (λ (l : LinkId). tt) (λ (h : HostId). begins_same w.announced) (λ (n : NodeId). begins_same w.dropped)
-nobody_tells graph v event took outcome = All-nil (λ (m : Addressed). IsDecided (after_event graph event took v) m.control)
+nobody_tells graph v event took outcome = All-nil (λ (m : Addressed). IsDecided (after_event graph event took outcome v) m.control)
 
 -- ---- what a node tells
 
@@ -185,7 +185,7 @@ done_true graph past r host run before =
     let v : View = view graph past in
     let known : ℕ → ℕ = λ n. length (noted_hosts (own graph n past)) in
     let P : View → Type 0 = λ w. w.done host ≤ known host in
-    view_after P graph r.event r.took v
+    view_after P graph r.event r.took r.step.outcome v
     (λ m took. record {
       down = λ link value told whole. before;
       done = λ other count told.
@@ -200,7 +200,7 @@ gone_true graph past r node run before =
     let v : View = view graph past in
     let known : ℕ → ℕ = λ n. length (known_drops (own graph n past)) in
     let P : View → Type 0 = λ w. w.gone node ≤ known node in
-    view_after P graph r.event r.took v
+    view_after P graph r.event r.took r.step.outcome v
     (λ m took. record {
       down = λ link value told whole. before;
       done = λ host count told. before;

@@ -12,7 +12,8 @@ use Rattle.pipe_base.specs.declared.name.LinkId.{LinkId}
 use Rattle.pipe_base.specs.declared.name.NodeId.{NodeId}
 use Rattle.pipe_base.specs.declared.name.Ts.{Ts}
 use Rattle.pipe_base.specs.Failed.{is_announced}
-use Rattle.pipe_base.specs.Graph.{Graph}
+use Rattle.pipe_base.specs.declared.step.Outcome.{Outcome}
+use Rattle.pipe_graph.specs.Graph.{Graph}
 use Rattle.pipe_model.specs.declared.event.Event.{Event}
 use Rattle.pipe_model.specs.declared.event.Event.TheVariants.{ControlTake, Decide}
 use Rattle.pipe_model.specs.declared.record.Record.{Record}
@@ -66,11 +67,11 @@ addressed_after P graph Controller control v told before = message_after P graph
 addressed_after P graph _ control v told before = before
 
 -- a property of the view is kept where reports and counts keep it, and a decision does
-pub view_after : (P : View → Type 0) (graph : Graph) (event : Event) (took : Took) (v : View) → WhereTold P took v
-    → (event ≡ Decide → P (after_decision graph v)) → P v → P (after_event graph event took v)
-view_after P graph (ControlTake place keep) (Message a) v told decided before = addressed_after P graph a.to a.control v (told a refl) before
-view_after P graph Decide took v told decided before = decided refl
-view_after P graph _ took v told decided before = before
+pub view_after : (P : View → Type 0) (graph : Graph) (event : Event) (took : Took) (outcome : Outcome) (v : View) → WhereTold P took v
+    → (event ≡ Decide → P (after_decision graph v)) → P v → P (after_event graph event took outcome v)
+view_after P graph (ControlTake place keep) (Message a) outcome v told decided before = addressed_after P graph a.to a.control v (told a refl) before
+view_after P graph Decide took outcome v told decided before = decided refl
+view_after P graph _ took outcome v told decided before = before
 
 -- what no message of the controller changes is kept by all of them
 pub untold : (P : View → Type 0) (v : View) (took : Took) → ((link : LinkId) (value : Ts) → P (reported link value v))
@@ -116,7 +117,7 @@ pub member_before : (graph : Graph) (past : List Record) (r : Record) (host : �
 member_before graph past r host =
     let v : View = view graph past in
     let P : View → Type 0 = λ w. w.members host ≡ true → v.members host ≡ true in
-    view_after P graph r.event r.took v (untold P v r.took (λ link value is. is) (λ other count is. is) (λ node count is. is))
+    view_after P graph r.event r.took r.step.outcome v (untold P v r.took (λ link value is. is) (λ other count is. is) (λ node count is. is))
     (λ decides. decision_after P graph v (λ is. is) (λ over is. (and_parts (v.members host) (not ((told_view graph v).doomed host)) is).0)) (λ is. is)
 
 -- and is a host of the graph
@@ -129,7 +130,7 @@ pub live_before : (graph : Graph) (past : List Record) (r : Record) (link : ℕ)
 live_before graph past r link =
     let v : View = view graph past in
     let P : View → Type 0 = λ w. w.live link ≡ true → v.live link ≡ true in
-    view_after P graph r.event r.took v (untold P v r.took (λ l value is. is) (λ other count is. is) (λ node count is. is))
+    view_after P graph r.event r.took r.step.outcome v (untold P v r.took (λ l value is. is) (λ other count is. is) (λ node count is. is))
     (λ decides. decision_after P graph v (λ is. is) (λ over is. (and_parts (v.live link) (not (is_dead graph (told_view graph v) link)) is).0)) (λ is. is)
 
 -- and is a link of the graph
@@ -146,7 +147,7 @@ announced_more graph past r =
     let P : View → Type 0 = λ w. Begins v.announced w.announced in
     let same : P v = begins_same v.announced in
     let more : P (told_view graph v) = (newly_announced graph (after_doom graph v), refl) in
-    view_after P graph r.event r.took v (untold P v r.took (λ l value. same) (λ other count. same) (λ node count. same))
+    view_after P graph r.event r.took r.step.outcome v (untold P v r.took (λ l value. same) (λ other count. same) (λ node count. same))
     (λ decides. decision_after P graph v more (λ over. more)) same
 
 pub drops_more : (graph : Graph) (past : List Record) (r : Record) → Begins (dropped graph past) (dropped graph (r ∷ past))
@@ -154,7 +155,7 @@ drops_more graph past r =
     let v : View = view graph past in
     let P : View → Type 0 = λ w. Begins v.dropped w.dropped in
     let same : P v = begins_same v.dropped in
-    view_after P graph r.event r.took v (untold P v r.took (λ l value. same) (λ other count. same) (λ node count. same))
+    view_after P graph r.event r.took r.step.outcome v (untold P v r.took (λ l value. same) (λ other count. same) (λ node count. same))
     (λ decides. decision_after P graph v same (λ over. (newly_dead graph (told_view graph v), refl))) same
 
 -- who is not announced was not announced before

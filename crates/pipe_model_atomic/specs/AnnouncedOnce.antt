@@ -1,6 +1,6 @@
 -- Each host is announced once: the hosts that were announced are different.
 use Rattle.std.specs.Prelude.{◌≢◌, List, AllPairs}
-use Rattle.pipe_base.specs.Graph.{Graph}
+use Rattle.pipe_graph.specs.Graph.{Graph}
 use Rattle.pipe_model.specs.declared.record.Record.{Record}
 use Rattle.pipe_model.specs.Controller.{announced}
 

@@ -2,7 +2,7 @@
 use Rattle.std.specs.Prelude.{◌≤◌, List, All, length}
 use Rattle.pipe_base.specs.declared.control.Control.{Control}
 use Rattle.pipe_base.specs.declared.control.Control.TheVariants.{Done, DropLinks, Gone, Notice}
-use Rattle.pipe_base.specs.Graph.{Graph}
+use Rattle.pipe_graph.specs.Graph.{Graph}
 use Rattle.pipe_model.specs.declared.record.Record.{Record}
 use Rattle.pipe_model.specs.Acting.{own}
 use Rattle.pipe_model.specs.Controller.{announced, dropped}

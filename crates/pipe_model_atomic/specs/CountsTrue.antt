@@ -1,7 +1,7 @@
 -- The counts that the controller keeps are true: no host has noted fewer of the announced hosts than it is credited with, and no
 -- node knows fewer of the dropped links.
 use Rattle.std.specs.Prelude.{ℕ, ◌≤◌, List, length}
-use Rattle.pipe_base.specs.Graph.{Graph}
+use Rattle.pipe_graph.specs.Graph.{Graph}
 use Rattle.pipe_model.specs.declared.record.Record.{Record}
 use Rattle.pipe_model.specs.Acting.{own}
 use Rattle.pipe_model.specs.Controller.{view}

@@ -1,6 +1,6 @@
 -- Nodes come to know dropped links in the order in which they were dropped, the first ones first.
 use Rattle.std.specs.Prelude.{ℕ, List}
-use Rattle.pipe_base.specs.Graph.{Graph}
+use Rattle.pipe_graph.specs.Graph.{Graph}
 use Rattle.pipe_model.specs.declared.record.Record.{Record}
 use Rattle.pipe_model.specs.Acting.{own}
 use Rattle.pipe_model.specs.Controller.{dropped}

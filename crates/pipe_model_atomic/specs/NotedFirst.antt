@@ -1,6 +1,6 @@
 -- Hosts note those that were announced in the order of their announcement, the first ones first.
 use Rattle.std.specs.Prelude.{ℕ, List}
-use Rattle.pipe_base.specs.Graph.{Graph}
+use Rattle.pipe_graph.specs.Graph.{Graph}
 use Rattle.pipe_model.specs.declared.record.Record.{Record}
 use Rattle.pipe_model.specs.Acting.{own}
 use Rattle.pipe_model.specs.Controller.{announced}

@@ -1,7 +1,7 @@
 -- What the controller knows of a link that is down: the link counts, and its report is the mark that it has at its head.
 use Rattle.std.specs.Prelude.{◌≡◌, ℕ, true, List, Some}
 use Rattle.pipe_base.specs.declared.name.Ts.{Ts}
-use Rattle.pipe_base.specs.Graph.{Graph, head_of}
+use Rattle.pipe_graph.specs.Graph.{Graph, head_of}
 use Rattle.pipe_model.specs.declared.record.Record.{Record}
 use Rattle.pipe_model.specs.Acting.{own}
 use Rattle.pipe_model.specs.Controller.{is_live, view}
@@ -13,4 +13,5 @@ pub record IsReportTrue (graph : Graph) (past : List Record) (link : ℕ) (value
   pub marked : mark (own graph (head_of graph link) past) link ≡ Some value
 
 abbrev pub AreReportsMarks : Graph → List Record → Type 0
-AreReportsMarks graph past = (link : ℕ) (value : Ts) → (view graph past).reports link ≡ Some value → IsReportTrue graph past link value
+AreReportsMarks graph past = (link : ℕ) (value : Ts) → (view graph past).reports link ≡ Some value
+    → IsReportTrue graph past link value

@@ -1,7 +1,7 @@
 -- What holds at every moment of a run, and from which all or none follows.
 use Rattle.std.specs.Prelude.{ℕ, List}
 use Rattle.pipe_base.specs.declared.packet.Plane.TheVariants.{Commit}
-use Rattle.pipe_base.specs.Graph.{Graph}
+use Rattle.pipe_graph.specs.Graph.{Graph}
 use Rattle.pipe_model.specs.declared.record.Record.{Record}
 use Rattle.pipe_model.specs.OnLink.{AreFieldsPromised}
 use Rattle.pipe_model.specs.PreparedHeld.{ArePreparedHeld}

@@ -6,9 +6,9 @@ ghost use Rattle.std.specs.Prelude.{◌≡◌, ◌≤◌, ◌↔◌, ℕ, false,
 ghost use Rattle.pipe_base.specs.declared.name.Ts.{Ts};
 ghost use Rattle.pipe_base.specs.declared.packet.Plane.TheVariants.{Commit};
 ghost use Rattle.pipe_base.specs.Failed.{is_announced, time_of};
-ghost use Rattle.pipe_base.specs.Graph.{Graph, IsGraph};
-ghost use Rattle.pipe_base.specs.Path.{IsPath};
-ghost use Rattle.pipe_base.specs.Reach.{JoinsAllHosts};
+ghost use Rattle.pipe_graph.specs.Graph.{Graph, IsGraph};
+ghost use Rattle.pipe_graph.specs.Path.{IsPath};
+ghost use Rattle.pipe_graph.specs.Reach.{JoinsAllHosts};
 ghost use Rattle.pipe_model.specs.declared.record.Record.{Record};
 ghost use Rattle.pipe_model.specs.Acting.{own};
 ghost use Rattle.pipe_model.specs.AllOrNone.{IsAllOrNone};
@@ -30,29 +30,35 @@ pub fn sentences_hold()
 
 /// Along a path of links that count, the commit barrier at the end is at most what the start promises.
 pub fn promises_bound_barriers()
-    ensures { (graph : Graph) (past : List Record) → Sentences graph past → (start end : ℕ) (path : List ℕ) → IsPath graph (is_live graph past) start end path
+    ensures { (graph : Graph) (past : List Record) → Sentences graph past → (start end : ℕ) (path : List ℕ)
+        → IsPath graph (is_live graph past) start end path
         → barrier_at Commit graph end (own graph end past) ≤ node_promise Commit graph start (own graph start past) }
 {}
 
 /// A report bounds the commit barriers of all hosts that a path over its link leads to.
 pub fn reports_bound_barriers()
-    ensures { (graph : Graph) (past : List Record) → IsHistory graph past → Sentences graph past → (start end link : ℕ) (value : Ts) (before after : List ℕ)
-        → IsPath graph (is_live graph past) start end (before ++ link ∷ after) → (view graph past).reports link ≡ Some value
+    ensures { (graph : Graph) (past : List Record) → IsHistory graph past → Sentences graph past
+        → (start end link : ℕ) (value : Ts) (before after : List ℕ)
+        → IsPath graph (is_live graph past) start end (before ++ link ∷ after)
+        → (view graph past).reports link ≡ Some value
         → barrier_at Commit graph end (own graph end past) ≤ value.0 }
 {}
 
 /// The commit barrier of a present host that has not noted a host that was announced as failed is at most the time of that
 /// host.
 pub fn times_bound_barriers()
-    ensures { (graph : Graph) (past : List Record) → IsHistory graph past → Sentences graph past → (host other : ℕ) (time : Ts)
-        → time_of host (announced graph past) ≡ Some time → IsPresent graph past other → is_announced host (noted_hosts (own graph other past)) ≡ false
+    ensures { (graph : Graph) (past : List Record) → IsHistory graph past → Sentences graph past
+        → (host other : ℕ) (time : Ts)
+        → time_of host (announced graph past) ≡ Some time → IsPresent graph past other
+        → is_announced host (noted_hosts (own graph other past)) ≡ false
         → barrier_at Commit graph other (own graph other past) ≤ time.0 }
 {}
 
 /// A host is cut off from another from a time on exactly where each path by links that count has a link with a report of at most
 /// this time.
 pub fn cut_off_hosts_have_reported_paths()
-    ensures { (graph : Graph) (past : List Record) (host other : ℕ) (time : Ts) → IsGraph graph → IsCutOff graph past host time other ↔ AreReportedPaths graph past host time other }
+    ensures { (graph : Graph) (past : List Record) (host other : ℕ) (time : Ts) → IsGraph graph
+        → IsCutOff graph past host time other ↔ AreReportedPaths graph past host time other }
 {}
 
 /// While a scattering of a host that was not announced as failed is unsettled, no commit barrier of a host that takes part is
@@ -64,11 +70,13 @@ pub fn unsettled_scatterings_hold_back()
 /// All or none: in every run of a network whose hosts are joined, a reliable scattering that the commit barriers of all its
 /// correct receivers have passed is in all their logs, or in none.
 pub fn every_run_is_all_or_none()
-    ensures { (graph : Graph) (past : List Record) → JoinsAllHosts graph → IsHistory graph past → IsAllOrNone graph past }
+    ensures { (graph : Graph) (past : List Record) → JoinsAllHosts graph → IsHistory graph past
+        → IsAllOrNone graph past }
 {}
 
 /// In every run of events of such a network no reliable message is late of itself: one that comes late at a correct host was
 /// held there before, or was taken back there, or its sender is noted there as failed by then.
 pub fn no_reliable_message_is_late_of_itself()
-    ensures { (graph : Graph) (past : List Record) → JoinsAllHosts graph → IsHistory graph past → AreOfGraph graph past → IsNoneLateOfItself graph past }
+    ensures { (graph : Graph) (past : List Record) → JoinsAllHosts graph → IsHistory graph past → AreOfGraph graph past
+        → IsNoneLateOfItself graph past }
 {}

@@ -17,7 +17,7 @@ use Rattle.pipe_base.specs.declared.packet.PacketKind.TheVariants.{Prepare}
 use Rattle.pipe_base.specs.declared.step.Fate.{Fate}
 use Rattle.pipe_base.specs.declared.step.Fate.TheVariants.{Held, Late, Repeat, Discarded}
 use Rattle.pipe_base.specs.Fate.{fate_of, is_holding, fate_among, fate_from}
-use Rattle.pipe_base.specs.Graph.{Graph}
+use Rattle.pipe_graph.specs.Graph.{Graph}
 use Rattle.pipe_base.specs.Messages.{Messages, has_key, same_key}
 use Rattle.pipe_base.specs.Packets.{Fields, sent_to}
 use Rattle.pipe_base.proofs.MessageLaws.{has_with, same_key-refl}
@@ -146,7 +146,7 @@ puts_of_own graph past r n step mine before =
       resent = λ s among d listed. sent_true Reliable graph (r ∷ past) (record { 0 = n }) s.ts f d;
       recalled = λ s among is d listed ack. cc;
       passed = λ q at half other.
-          let took = received_took (moments_of o) r.event r.took q at in ack_still graph past r q.1 (before took.0 q.1 took.1);
+          let took = received_took (moments_of graph n o) r.event r.took q at in ack_still graph past r q.1 (before took.0 q.1 took.1);
       answered = λ p gets_is host reliable holding is. answer_true graph past r n p step mine gets_is reliable holding;
       took_back = λ p gets_is host is ack. cc;
       beacon_too = λ is. cc;

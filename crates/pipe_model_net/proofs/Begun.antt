@@ -11,7 +11,7 @@ use Rattle.pipe_base.specs.declared.message.Service.TheVariants.{Reliable}
 use Rattle.pipe_base.specs.declared.step.Outcome.{Outcome}
 use Rattle.pipe_base.specs.declared.step.Outcome.TheVariants.{Ok}
 use Rattle.pipe_base.specs.Clock.{stamp_at}
-use Rattle.pipe_base.specs.Graph.{Graph}
+use Rattle.pipe_graph.specs.Graph.{Graph}
 use Rattle.pipe_base.specs.Scattering.{Scattering, SenderCall, begun}
 use Rattle.pipe_model.specs.declared.event.Event.{Event}
 use Rattle.pipe_model.specs.declared.event.Event.TheVariants.{Send}
@@ -35,9 +35,9 @@ pub send_accepted : (graph : Graph) (past : List Record) (r : Record) (n : ℕ) 
 send_accepted graph past r n host service now dests ts step mine event stamp =
     let o : List Record = own graph n past in
     let outcome : Outcome = own_outcome graph n o (Send host service now dests) in
-    let stamps : where_ok outcome (stamp_at now.0 (next o)) ≡ Some ts =
+    let stamps : where_ok outcome (stamp_at now.0 (next graph n o)) ≡ Some ts =
     sym (ap (λ (e : Event). stamped graph n o e) event) ∙ sym (step.node n mine).stamped_is ∙ stamp in
-    (step.node n mine).outcome_is ∙ ap (λ (e : Event). own_outcome graph n o e) event ∙ ok_where outcome (stamp_at now.0 (next o)) ts stamps
+    (step.node n mine).outcome_is ∙ ap (λ (e : Event). own_outcome graph n o e) event ∙ ok_where outcome (stamp_at now.0 (next graph n o)) ts stamps
 
 -- what a receiver is sent, as an entry of its log
 abbrev pub entry_sent : ℕ → Scattering → (HostId × List ℕ) → Entry

@@ -11,9 +11,9 @@ use Rattle.pipe_base.specs.declared.name.LinkId.{LinkId}
 use Rattle.pipe_base.specs.declared.name.NodeId.{NodeId}
 use Rattle.pipe_base.specs.declared.name.Ts.{Ts}
 use Rattle.pipe_base.specs.declared.step.Step.{Step}
-use Rattle.pipe_base.specs.Graph.{Graph, head_of, ins_of, is_host}
+use Rattle.pipe_graph.specs.Graph.{Graph, head_of, ins_of, is_host}
 use Rattle.pipe_base.specs.Settled.{is_recalling}
-use Rattle.pipe_base.specs.ShortestRoute.{not_dropped}
+use Rattle.pipe_graph.specs.Passable.{not_dropped}
 use Rattle.pipe_model.specs.declared.event.Event.{Event}
 use Rattle.pipe_model.specs.declared.event.Event.TheVariants.{Tick}
 use Rattle.pipe_model.specs.declared.record.Record.{Record}

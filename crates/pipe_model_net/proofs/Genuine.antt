@@ -9,7 +9,7 @@ use Rattle.pipe_base.specs.declared.packet.Packet.{Packet}
 use Rattle.pipe_base.specs.declared.step.Fate.{Fate}
 use Rattle.pipe_base.specs.declared.step.Fate.TheVariants.{Held}
 use Rattle.pipe_base.specs.Failed.{without_void}
-use Rattle.pipe_base.specs.Graph.{Graph, is_host}
+use Rattle.pipe_graph.specs.Graph.{Graph, is_host}
 use Rattle.pipe_base.specs.Messages.{Messages, entry_of, from_barrier}
 use Rattle.pipe_base.proofs.KeyOrder.{insert_all}
 use Rattle.pipe_model.specs.declared.record.Record.{Record}
@@ -58,11 +58,11 @@ brings service graph node q p is =
 
 -- the message that a record brings was sent before
 pub got_sent : (service : Service) (graph : Graph) (past : List Record) (r : Record) (n : ℕ) (o : Option (ℕ × Packet)) (p : Packet) → IsHistory graph past
-    → IsStep graph past r → received (own graph n past) r ≡ o → message_of service (gets_of graph n o) ≡ Some p → SentTo service n past (key_of p, p.body)
+    → IsStep graph past r → received graph n (own graph n past) r ≡ o → message_of service (gets_of graph n o) ≡ Some p → SentTo service n past (key_of p, p.body)
 got_sent service graph past r n None p run step is got = cc
 got_sent service graph past r n (Some q) p run step is got =
     let b = brings service graph n q p got in
-    let took = received_took (moments_of (own graph n past)) r.event r.took q is in
+    let took = received_took (moments_of graph n (own graph n past)) r.event r.took q is in
     let w = took_waited graph past r took.0 q.1 step took.1 in
     let sent : IsMessageSent past q.1 =
     at_place (IsMessageSent past) (waiting_on w.link past) w.place q.1 ((messages_sent graph past run).waiting w.link) w.waited in
@@ -80,7 +80,7 @@ held_sent_now : (service : Service) (graph : Graph) (past : List Record) (r : Re
 held_sent_now service graph past r n run step before =
     let o : List Record = own graph n past in
     held_more (SentTo service n past) (fate_in service graph n o r)
-    (got service graph n o r) (held service graph n o) before (λ p is. got_sent service graph past r n (received o r) p run step refl is)
+    (got service graph n o r) (held service graph n o) before (λ p is. got_sent service graph past r n (received graph n o r) p run step refl is)
 
 later : (service : Service) (n : ℕ) (past : List Record) (r : Record) (ms : Messages) → All (SentTo service n past) ms → All (SentTo service n (r ∷ past)) ms
 later service n past r ms all = All-weaker (SentTo service n past) (SentTo service n (r ∷ past)) (λ m sent. inr sent) ms all

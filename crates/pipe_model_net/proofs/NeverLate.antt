@@ -20,7 +20,7 @@ use Rattle.pipe_base.specs.declared.step.Fate.{Fate}
 use Rattle.pipe_base.specs.declared.step.Fate.TheVariants.{Held, Late, Repeat, Discarded, Recalled}
 use Rattle.pipe_base.specs.declared.step.Outcome.{Outcome}
 use Rattle.pipe_base.specs.declared.step.Step.{Step}
-use Rattle.pipe_base.specs.Graph.{Graph, ins_of, is_host}
+use Rattle.pipe_graph.specs.Graph.{Graph, ins_of, is_host}
 use Rattle.pipe_base.specs.Messages.{Messages, has_key}
 use Rattle.pipe_base.proofs.BarrierLaws.{barrier-le_register}
 use Rattle.pipe_model.proofs.Decisions.{nobodys_fate}
@@ -131,14 +131,14 @@ barrier_before : (graph : Graph) (past : List Record) (node : ℕ) (q : ℕ × P
     → barrier_at plane.BestEffort graph node (own graph node past) ≤ greatest_received plane.BestEffort graph q.0 past
 barrier_before graph past node q at =
     subst (λ (n : ℕ). barrier_at plane.BestEffort graph node (own graph node past) ≤ n) (at_head graph past node q.0 at.head)
-    (barrier-le_register plane.BestEffort (ins_of graph node) (moments_of (own graph node past)) q.0 at.among at.up)
+    (barrier-le_register plane.BestEffort (ins_of graph node) (moments_of graph node (own graph node past)) q.0 at.among at.up)
 
 plain_of : (k : PacketKind) → carries BestEffort k ≡ true → k ≡ Plain
 plain_of Plain is = refl
 plain_of _ is = cc
 
 got_above : (graph : Graph) (past : List Record) (r : Record) (node : ℕ) (o : Option (ℕ × Packet)) (p : Packet) → IsOrderedStep graph past r
-    → is_own graph node r ≡ true → AreSettled graph past → received (own graph node past) r ≡ o → message_of BestEffort (gets_of graph node o) ≡ Some p
+    → is_own graph node r ≡ true → AreSettled graph past → received graph node (own graph node past) r ≡ o → message_of BestEffort (gets_of graph node o) ≡ Some p
     → barrier_at plane.BestEffort graph node (own graph node past) ≤ p.ts.0
 got_above graph past r node None p step mine settled is got = cc
 got_above graph past r node (Some q) p step mine settled is got =
@@ -153,7 +153,7 @@ best_in_time : (graph : Graph) (past : List Record) (r : Record) (node : ℕ) �
 best_in_time graph past r node step mine settled =
     let o : List Record = own graph node past in
     in_time (barrier_at plane.BestEffort graph node o) [] (recalled_for BestEffort graph node o) (held BestEffort graph node o) (got BestEffort graph node o r)
-    (λ p got. got_above graph past r node (received o r) p step mine settled refl got)
+    (λ p got. got_above graph past r node (received graph node o r) p step mine settled refl got)
 
 -- a record that took a best-effort message brings no reliable one
 not_reliable : (k : PacketKind) → carries BestEffort k ≡ true → carries Reliable k ≡ false
@@ -171,8 +171,8 @@ none_reliable graph node (Some q) isnt = no_message (is_host graph node && ((q.1
 
 took_no_reliable : (graph : Graph) (node : ℕ) (own : List Record) (r : Record) → took_best r.took ≡ true → got Reliable graph node own r ≡ None
 took_no_reliable graph node own r best =
-    none_reliable graph node (received own r) (λ q is.
-    let took = received_took (moments_of own) r.event r.took q is in
+    none_reliable graph node (received graph node own r) (λ q is.
+    let took = received_took (moments_of graph node own) r.event r.took q is in
     not_reliable q.1.kind (sym (ap took_best took.1) ∙ best))
 
 late_or_none : (f : Option Fate) → is_late f ≡ false → is_late (option_or f None) ≡ false

@@ -11,12 +11,13 @@ use Rattle.pipe_base.specs.declared.name.Ts.{Ts}
 use Rattle.pipe_base.specs.declared.packet.Packet.{Packet}
 use Rattle.pipe_base.specs.declared.step.Fate.{Fate}
 use Rattle.pipe_base.specs.Fate.{is_holding}
-use Rattle.pipe_base.specs.Graph.{Graph, is_host, outs_of}
+use Rattle.pipe_graph.specs.Graph.{Graph, is_host, outs_of}
 use Rattle.pipe_base.specs.Packets.{Fields, ack_to, beacon, forwarded, prepare_to, recall_ack_to, recall_to, sent_to}
 use Rattle.pipe_base.specs.Resends.{resends, resends_for}
 use Rattle.pipe_base.specs.Scattering.{Scattering, SenderCall}
 use Rattle.pipe_base.specs.Settled.{awaits, is_acked, is_recalled, unsettled}
-use Rattle.pipe_base.specs.ShortestRoute.{not_dropped, route}
+use Rattle.pipe_graph.specs.ShortestRoute.{route}
+use Rattle.pipe_graph.specs.Passable.{is_passable}
 use Rattle.pipe_base.specs.Ways.{on_way, routed}
 use Rattle.pipe_model.specs.declared.event.Event.{Event}
 use Rattle.pipe_model.specs.declared.event.Event.TheVariants.{Send, Tick, Take}
@@ -36,7 +37,7 @@ pub record OfEachPut (P : Packet → Type 0) (graph : Graph) (node : ℕ) (own :
       → P (prepare_to (record { 0 = node }) s.ts (fields graph node own r) d)
   pub recalled : (s : Scattering) → Contains (unsettled (sender_calls graph node (r ∷ own))) s → is_recalled (sender_calls graph node (r ∷ own)) s ≡ true
       → (d : HostId × List ℕ) → Contains s.dests d → P (recall_to (record { 0 = node }) s.ts (fields graph node own r) d)
-  pub passed : (q : ℕ × Packet) → received own r ≡ Some q → is_host graph node ≡ false → is_beacon q.1.kind ≡ false → P (forwarded (fields graph node own r) q.1)
+  pub passed : (q : ℕ × Packet) → received graph node own r ≡ Some q → is_host graph node ≡ false → is_beacon q.1.kind ≡ false → P (forwarded (fields graph node own r) q.1)
   pub answered : (p : Packet) → gets graph node own r ≡ Some p → is_host graph node ≡ true → carries Reliable p.kind ≡ true → is_holding r.step.fate ≡ true
       → P (ack_to (record { 0 = node }) (fields graph node own r) p)
   pub took_back : (p : Packet) → gets graph node own r ≡ Some p → is_host graph node ≡ true → is_recall p.kind ≡ true
@@ -125,9 +126,9 @@ owed_each P graph node own r (Tick n now) each is =
     (λ host. owed_resends P calls (record { 0 = node }) (fields graph node own r) each.resent each.recalled) (λ half. All-nil P)
 owed_each P graph node own r (Take link place keep) each is =
     let f : Fields = fields graph node own r in
-    either_list (is_host graph node) P (owed_by_host node f r.step.fate (gets graph node own r)) (owed_by_half f (received own r))
+    either_list (is_host graph node) P (owed_by_host node f r.step.fate (gets graph node own r)) (owed_by_half f (received graph node own r))
     (λ host. owed_host P node f r.step.fate (gets graph node own r) (λ p got. each.answered p got host) (λ p got. each.took_back p got host))
-    (λ half. owed_half P f (received own r) (λ q at. each.passed q at half))
+    (λ half. owed_half P f (received graph node own r) (λ q at. each.passed q at half))
 owed_each P graph node own r _ each is = All-nil P
 
 -- ---- what is put
@@ -145,7 +146,7 @@ routed_all P way (p ∷ ps) all =
 beacons_all : (P : Packet → Type 0) (graph : Graph) (node : ℕ) (dropped : List LinkId) (f : Fields) (event : Event) → P (beacon f)
     → All (λ q. P q.1) (beacons_of graph node dropped f event)
 beacons_all P graph node dropped f (Tick n now) here =
-    let links : List LinkId = filter (λ l. not_dropped dropped l.0) (outs_of graph node) in
+    let links : List LinkId = filter (λ l. is_passable graph dropped l.0) (outs_of graph node) in
     All-map (λ (q : LinkId × Packet). P q.1) (λ (l : LinkId). (l, beacon f)) links (λ k d lt. here)
 beacons_all P graph node dropped f _ here = All-nil (λ (q : LinkId × Packet). P q.1)
 

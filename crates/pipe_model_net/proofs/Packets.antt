@@ -7,7 +7,7 @@ use Rattle.pipe_base.specs.declared.control.Addressed.{Addressed}
 use Rattle.pipe_base.specs.declared.name.LinkId.{LinkId}
 use Rattle.pipe_base.specs.declared.packet.Packet.{Packet}
 use Rattle.pipe_base.specs.declared.step.Outcome.{Outcome}
-use Rattle.pipe_base.specs.Graph.{Graph}
+use Rattle.pipe_graph.specs.Graph.{Graph}
 use Rattle.pipe_model.specs.declared.event.Event.{Event}
 use Rattle.pipe_model.specs.declared.event.Event.TheVariants.{Take, Lose, ControlTake}
 use Rattle.pipe_model.specs.declared.record.Record.{Record}
@@ -109,28 +109,28 @@ receipt_more P None qs new all = all
 receipt_more P (Some q) qs new all = All-cons (λ (x : ℕ × Packet). P x.1) q qs (new q refl) all
 
 received_more : (graph : Graph) (Q : List Record → Packet → Type 0) → IsKept graph Q → (past : List Record) (r : Record) (node : ℕ) → IsHistory graph past
-    → IsStep graph past r → (b : Bool) → is_own graph node r ≡ b → All (λ q. Q past q.1) (receipts (own graph node past))
-    → All (λ q. Q (r ∷ past) q.1) (receipts (own graph node (r ∷ past)))
+    → IsStep graph past r → (b : Bool) → is_own graph node r ≡ b → All (λ q. Q past q.1) (receipts graph node (own graph node past))
+    → All (λ q. Q (r ∷ past) q.1) (receipts graph node (own graph node (r ∷ past)))
 received_more graph Q kept past r node run step b is before =
     let o : List Record = own graph node past in
-    let stay : All (λ q. Q (r ∷ past) q.1) (receipts o) =
-    All-weaker (λ (q : ℕ × Packet). Q past q.1) (λ (q : ℕ × Packet). Q (r ∷ past) q.1) (λ (q : ℕ × Packet) holds. kept.stays past r q.1 run step holds) (receipts o) before in
-    let new : (q : ℕ × Packet) → received o r ≡ Some q → Q (r ∷ past) q.1 =
+    let stay : All (λ q. Q (r ∷ past) q.1) (receipts graph node o) =
+    All-weaker (λ (q : ℕ × Packet). Q past q.1) (λ (q : ℕ × Packet). Q (r ∷ past) q.1) (λ (q : ℕ × Packet) holds. kept.stays past r q.1 run step holds) (receipts graph node o) before in
+    let new : (q : ℕ × Packet) → received graph node o r ≡ Some q → Q (r ∷ past) q.1 =
     λ q at.
-    let w = receives graph past o r q step at in
+    let w = receives graph node past o r q step at in
     kept.stays past r q.1 run step (at_place (Q past) (waiting_on q.0 past) w.place q.1 (packets_keep graph Q kept past run q.0) w.waited) in
     by_owner b is stay new
   where
-    by_owner : (b : Bool) → is_own graph node r ≡ b → All (λ q. Q (r ∷ past) q.1) (receipts (own graph node past))
-        → ((q : ℕ × Packet) → received (own graph node past) r ≡ Some q → Q (r ∷ past) q.1) → All (λ q. Q (r ∷ past) q.1) (receipts (own graph node (r ∷ past)))
+    by_owner : (b : Bool) → is_own graph node r ≡ b → All (λ q. Q (r ∷ past) q.1) (receipts graph node (own graph node past))
+        → ((q : ℕ × Packet) → received graph node (own graph node past) r ≡ Some q → Q (r ∷ past) q.1) → All (λ q. Q (r ∷ past) q.1) (receipts graph node (own graph node (r ∷ past)))
     by_owner true mine stay new =
-        subst (λ (x : List Record). All (λ (q : ℕ × Packet). Q (r ∷ past) q.1) (receipts x)) (sym (own_more graph node r past mine))
-        (receipt_more (Q (r ∷ past)) (received (own graph node past) r) (receipts (own graph node past)) new stay)
+        subst (λ (x : List Record). All (λ (q : ℕ × Packet). Q (r ∷ past) q.1) (receipts graph node x)) (sym (own_more graph node r past mine))
+        (receipt_more (Q (r ∷ past)) (received graph node (own graph node past) r) (receipts graph node (own graph node past)) new stay)
     by_owner false other stay new =
-        subst (λ (x : List Record). All (λ (q : ℕ × Packet). Q (r ∷ past) q.1) (receipts x)) (sym (own_same graph node r past other)) stay
+        subst (λ (x : List Record). All (λ (q : ℕ × Packet). Q (r ∷ past) q.1) (receipts graph node x)) (sym (own_same graph node r past other)) stay
 
 received_keep : (graph : Graph) (Q : List Record → Packet → Type 0) → IsKept graph Q → (past : List Record) → IsHistory graph past
-    → (node : ℕ) → All (λ q. Q past q.1) (receipts (own graph node past))
+    → (node : ℕ) → All (λ q. Q past q.1) (receipts graph node (own graph node past))
 received_keep graph Q kept [] run node = All-nil (λ (q : ℕ × Packet). Q [] q.1)
 received_keep graph Q kept (r ∷ past) run node =
     received_more graph Q kept past r node run.0 run.1 (is_own graph node r) refl (received_keep graph Q kept past run.0 node)

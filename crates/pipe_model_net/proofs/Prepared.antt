@@ -8,7 +8,7 @@ use Rattle.pipe_base.specs.declared.message.Service.TheVariants.{Reliable}
 use Rattle.pipe_base.specs.declared.name.HostId.{HostId}
 use Rattle.pipe_base.specs.declared.name.Ts.{Ts}
 use Rattle.pipe_base.specs.declared.packet.Packet.{Packet}
-use Rattle.pipe_base.specs.Graph.{Graph, is_host}
+use Rattle.pipe_graph.specs.Graph.{Graph, is_host}
 use Rattle.pipe_base.specs.Scattering.{Scattering, SenderCall, Acked, RecallAcked, is_begun}
 use Rattle.pipe_base.specs.Settled.{is_acked, is_prepared}
 use Rattle.pipe_model.specs.declared.event.Event.{Event}
@@ -100,16 +100,16 @@ noted_acked noted [] calls ts other is = is
 noted_acked noted (a ∷ more) calls ts other is = is
 
 -- whatever was received by the host is among the receipts, each of which is true
-acked_held : (graph : Graph) (past : List Record) (host : ℕ) (own : List Record) → All (Receipt graph past) (receipts own)
+acked_held : (graph : Graph) (past : List Record) (host : ℕ) (own : List Record) → All (Receipt graph past) (receipts graph host own)
     → (ts other : ℕ) → is_acked (sender_calls graph host own) ts other ≡ true → WasHeld graph past host ts other
 acked_held graph past host [] all ts other is = cc
 acked_held graph past host (r ∷ own) all ts other is =
     let first : List SenderCall = with_begun r.event r.step.stamped (sender_calls graph host own) in
     by_gets graph past host ts other (gets graph host own r) first
     (λ p got.
-    let w = is_got graph host (received own r) p got in
-    (newest (Receipt graph past) (received own r) (w.link, p) (receipts own) w.received_is all, w.dst))
-    (λ old. acked_held graph past host own (rest_of (Receipt graph past) (received own r) (receipts own) all) ts other
+    let w = is_got graph host (received graph host own r) p got in
+    (newest (Receipt graph past) (received graph host own r) (w.link, p) (receipts graph host own) w.received_is all, w.dst))
+    (λ old. acked_held graph past host own (rest_of (Receipt graph past) (received graph host own r) (receipts graph host own) all) ts other
     (begun_acked r.event r.step.stamped (sender_calls graph host own) ts other old))
     (noted_acked (noted_hosts (r ∷ own)) r.step.noted (with_answer (gets graph host own r) first) ts other is)
 

@@ -4,7 +4,7 @@ use Rattle.std.specs.List.{All, slice_get}
 use Rattle.std.proofs.lemmas.List.Elements.{All-nil, All-append, All-weaker}
 use Rattle.pipe_base.specs.declared.packet.Packet.{Packet}
 use Rattle.pipe_base.specs.declared.packet.Plane.{Plane}
-use Rattle.pipe_base.specs.Graph.{Graph, head_of}
+use Rattle.pipe_graph.specs.Graph.{Graph, head_of}
 use Rattle.pipe_model.specs.declared.record.Record.{Record}
 use Rattle.pipe_model.specs.Acting.{own}
 use Rattle.pipe_model.specs.Moments.{received}
@@ -24,9 +24,9 @@ pub received_promised : (plane : Plane) (graph : Graph) (link : ℕ) (past : Lis
     → greatest_received plane graph link (r ∷ past) ≤ tail_promise plane graph link past
 received_promised plane graph link past r step before =
     let bound : ℕ = tail_promise plane graph link past in
-    let below : (q : ℕ × Packet) → received (own graph (head_of graph link) past) r ≡ Some q → q.0 ≡ link → field plane q.1 ≤ bound =
+    let below : (q : ℕ × Packet) → received graph (head_of graph link) (own graph (head_of graph link) past) r ≡ Some q → q.0 ≡ link → field plane q.1 ≤ bound =
     λ q is on.
-    let w = receives graph past (own graph (head_of graph link) past) r q step is in
+    let w = receives graph (head_of graph link) past (own graph (head_of graph link) past) r q step is in
     at_place (FieldBelow plane bound) (waiting_on link past) w.place q.1 before.waiting
     (subst (λ (l : ℕ). slice_get (waiting_on l past) w.place ≡ Some q.1) on w.waited) in
     received_below plane graph link bound past r before.received below

@@ -12,9 +12,10 @@ use Rattle.pipe_base.specs.declared.packet.Packet.{Packet}
 use Rattle.pipe_base.specs.declared.packet.Plane.{Plane}
 use Rattle.pipe_base.specs.declared.packet.Plane.TheVariants as planes
 use Rattle.pipe_base.specs.Barrier.{field_of}
-use Rattle.pipe_base.specs.Graph.{Graph, is_host, outs_of, tail_of}
+use Rattle.pipe_graph.specs.Graph.{Graph, is_host, outs_of, tail_of}
 use Rattle.pipe_base.specs.Packets.{Fields, beacon, sent_to}
-use Rattle.pipe_base.specs.ShortestRoute.{not_dropped, route}
+use Rattle.pipe_graph.specs.ShortestRoute.{route}
+use Rattle.pipe_graph.specs.Passable.{is_passable}
 use Rattle.pipe_base.specs.Ways.{on_way, routed}
 use Rattle.pipe_model.specs.declared.event.Event.{Event}
 use Rattle.pipe_model.specs.declared.event.Event.TheVariants.{Tick}
@@ -80,9 +81,9 @@ routed_out graph node dropped (p ∷ ps) =
 
 beacons_out : (graph : Graph) (node : ℕ) (dropped : List LinkId) (f : Fields) (event : Event) → All (LeadsOut graph node) (beacons_of graph node dropped f event)
 beacons_out graph node dropped f (Tick n now) =
-    let links : List LinkId = filter (λ l. not_dropped dropped l.0) (outs_of graph node) in
+    let links : List LinkId = filter (λ l. is_passable graph dropped l.0) (outs_of graph node) in
     All-map (LeadsOut graph node) (λ (l : LinkId). (l, beacon f)) links
-    (All-filter (λ (l : LinkId). not_dropped dropped l.0) (GoesOut graph node) (outs_of graph node) (outs_go_out graph node))
+    (All-filter (λ (l : LinkId). is_passable graph dropped l.0) (GoesOut graph node) (outs_of graph node) (outs_go_out graph node))
 beacons_out graph node dropped f _ = All-nil (LeadsOut graph node)
 
 puts_lead_out : (graph : Graph) (node : ℕ) (own : List Record) (r : Record) → IsNodeStep graph node own r → All (LeadsOut graph node) r.step.put
@@ -132,11 +133,11 @@ stamp_between None before after rises stamp = (rises, omega arith)
 stamp_between (Some ts) before after rises stamp = stamp ts refl
 
 host_between : (plane : Plane) (graph : Graph) (node : ℕ) (own : List Record) (r : Record) → IsNodeStep graph node own r
-    → (host_promise plane graph node own ≤ field_of plane (host_be r.step.stamped (next (r ∷ own))) (promise graph node (r ∷ own)))
-    × (field_of plane (host_be r.step.stamped (next (r ∷ own))) (promise graph node (r ∷ own)) ≤ host_promise plane graph node (r ∷ own))
+    → (host_promise plane graph node own ≤ field_of plane (host_be r.step.stamped (next graph node (r ∷ own))) (promise graph node (r ∷ own)))
+    × (field_of plane (host_be r.step.stamped (next graph node (r ∷ own))) (promise graph node (r ∷ own)) ≤ host_promise plane graph node (r ∷ own))
 host_between planes.BestEffort graph node own r step =
-    stamp_between r.step.stamped (next own) (next (r ∷ own)) (next_rises own r)
-    (λ ts is. (stamp_above graph node own r.event ts (sym step.stamped_is ∙ is), let lt = stamp_below own r ts is in omega arith))
+    stamp_between r.step.stamped (next graph node own) (next graph node (r ∷ own)) (next_rises graph node own r)
+    (λ ts is. (stamp_above graph node own r.event ts (sym step.stamped_is ∙ is), let lt = stamp_below graph node own r ts is in omega arith))
 host_between planes.Commit graph node own r step = (promise_rises graph node own r step, omega arith)
 
 half_between : (plane : Plane) (graph : Graph) (node : ℕ) (own : List Record) (r : Record)
@@ -156,7 +157,7 @@ pub field_between : (plane : Plane) (graph : Graph) (node : ℕ) (own : List Rec
     → (node_promise plane graph node own ≤ field_in plane (fields graph node own r)) × (field_in plane (fields graph node own r) ≤ node_promise plane graph node (r ∷ own))
 field_between plane graph node own r step =
     chosen_between (is_host graph node) plane
-    (record { be = host_be r.step.stamped (next (r ∷ own)); commit = promise graph node (r ∷ own) })
+    (record { be = host_be r.step.stamped (next graph node (r ∷ own)); commit = promise graph node (r ∷ own) })
     (record { be = barrier_at planes.BestEffort graph node (r ∷ own); commit = barrier_at planes.Commit graph node (r ∷ own) })
     (host_promise plane graph node own) (barrier_at plane graph node own) (host_promise plane graph node (r ∷ own)) (barrier_at plane graph node (r ∷ own))
     (host_between plane graph node own r step) (half_between plane graph node own r)

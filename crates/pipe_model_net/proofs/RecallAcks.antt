@@ -12,7 +12,7 @@ use Rattle.pipe_base.specs.declared.name.HostId.{HostId}
 use Rattle.pipe_base.specs.declared.name.LinkId.{LinkId}
 use Rattle.pipe_base.specs.declared.name.Ts.{Ts}
 use Rattle.pipe_base.specs.declared.packet.Packet.{Packet}
-use Rattle.pipe_base.specs.Graph.{Graph}
+use Rattle.pipe_graph.specs.Graph.{Graph}
 use Rattle.pipe_base.specs.Packets.{Fields, sent_to}
 use Rattle.pipe_base.specs.Scattering.{Scattering, SenderCall, Acked, RecallAcked}
 use Rattle.pipe_base.specs.Settled.{is_recall_acked, is_recalled}
@@ -85,7 +85,7 @@ puts_of_own graph past r n step mine before =
       resent = λ s among d listed. sent_true Reliable graph (r ∷ past) (record { 0 = n }) s.ts f d;
       recalled = λ s among is d listed kind. cc;
       passed = λ q at half other.
-          let took = received_took (moments_of o) r.event r.took q at in ack_still graph past r q.1 (before took.0 q.1 took.1);
+          let took = received_took (moments_of graph n o) r.event r.took q at in ack_still graph past r q.1 (before took.0 q.1 took.1);
       answered = λ p gets_is host reliable holding kind. cc;
       took_back = λ p gets_is host is kind. back_now graph past r n p mine gets_is is;
       beacon_too = λ kind. cc;
@@ -153,16 +153,16 @@ by_gets graph past host s other (Some p) calls holds before is =
     by_answer (is_ack p.kind) (is_recall_ack p.kind) graph past host s other p calls refl (holds p refl).0 (holds p refl).1 before is
 
 -- whatever was received by the host is among the receipts, each of which is true
-acked_back : (graph : Graph) (past : List Record) (host : ℕ) (own : List Record) → All (Receipt graph past) (receipts own)
+acked_back : (graph : Graph) (past : List Record) (host : ℕ) (own : List Record) → All (Receipt graph past) (receipts graph host own)
     → (s : Scattering) (other : ℕ) → is_recall_acked (sender_calls graph host own) s other ≡ true → WasBack graph past host s.ts.0 other
 acked_back graph past host [] all s other is = cc
 acked_back graph past host (r ∷ own) all s other is =
     let first : List SenderCall = with_begun r.event r.step.stamped (sender_calls graph host own) in
     by_gets graph past host s other (gets graph host own r) first
     (λ p got.
-    let w = is_got graph host (received own r) p got in
-    (newest (Receipt graph past) (received own r) (w.link, p) (receipts own) w.received_is all, w.dst))
-    (λ old. acked_back graph past host own (rest_of (Receipt graph past) (received own r) (receipts own) all) s other
+    let w = is_got graph host (received graph host own r) p got in
+    (newest (Receipt graph past) (received graph host own r) (w.link, p) (receipts graph host own) w.received_is all, w.dst))
+    (λ old. acked_back graph past host own (rest_of (Receipt graph past) (received graph host own r) (receipts graph host own) all) s other
     (begun_counts r.event r.step.stamped (sender_calls graph host own) s other old))
     (noted_counts (noted_hosts (r ∷ own)) r.step.noted (with_answer (gets graph host own r) first) s other is)
 

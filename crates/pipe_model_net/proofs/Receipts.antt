@@ -5,7 +5,7 @@ use Rattle.pipe_base.specs.declared.name.LinkId.{LinkId}
 use Rattle.pipe_base.specs.declared.packet.Packet.{Packet}
 use Rattle.pipe_base.specs.declared.packet.Plane.{Plane}
 use Rattle.pipe_base.specs.Barrier.{register}
-use Rattle.pipe_base.specs.Graph.{Graph, head_of}
+use Rattle.pipe_graph.specs.Graph.{Graph, head_of, ins_of}
 use Rattle.pipe_base.specs.Moment.{Moment, is_up, keeps_links, with_received, with_downed}
 use Rattle.pipe_model.specs.declared.event.Event.{Event}
 use Rattle.pipe_model.specs.declared.event.Event.TheVariants.{Take}
@@ -66,9 +66,9 @@ by_event graph past moments (Take link place keep) took q took_is is =
     (subst (λ (t : Took). taken_from moments link.0 t ≡ Some q) took_is is)
 by_event graph past moments _ took q took_is is = cc
 
-pub receives : (graph : Graph) (past own : List Record) (r : Record) (q : ℕ × Packet) → IsStep graph past r → received own r ≡ Some q
-    → Receives past (moments_of own) r.event q
-receives graph past own r q step is = by_event graph past (moments_of own) r.event r.took q step.took_is is
+pub receives : (graph : Graph) (node : ℕ) (past own : List Record) (r : Record) (q : ℕ × Packet) → IsStep graph past r → received graph node own r ≡ Some q
+    → Receives past (moments_of graph node own) r.event q
+receives graph node past own r q step is = by_event graph past (moments_of graph node own) r.event r.took q step.took_is is
 
 -- ---- the greatest field received
 
@@ -88,25 +88,25 @@ register_received plane true (Some q) past link bound low below =
 register_received plane false (Some q) past link bound low below =
     max_below (q.0 == link) q.0 link (register plane past link) (field plane q.1) bound refl low (below q refl)
 
-register_more : (plane : Plane) (own : List Record) (r : Record) (link bound : ℕ) → register plane (moments_of own) link ≤ bound → ReceivedBelow plane link bound (received own r)
-    → register plane (moments_of (r ∷ own)) link ≤ bound
-register_more plane own r link bound low below =
-    let before : List Moment = with_received (keeps_links r.step.downed r.step.dropped) (received own r) (moments_of own) in
-    let same : register plane (moments_of (r ∷ own)) link ≡ register plane before link =
-    register_dropped plane r.step.dropped (with_downed r.step.downed before) link ∙ register_downed plane r.step.downed before link in
-    subst (λ (n : ℕ). n ≤ bound) (sym same) (register_received plane (keeps_links r.step.downed r.step.dropped) (received own r) (moments_of own) link bound low below)
+register_more : (graph : Graph) (node : ℕ) (plane : Plane) (own : List Record) (r : Record) (link bound : ℕ) → register plane (moments_of graph node own) link ≤ bound → ReceivedBelow plane link bound (received graph node own r)
+    → register plane (moments_of graph node (r ∷ own)) link ≤ bound
+register_more graph node plane own r link bound low below =
+    let before : List Moment = with_received (keeps_links r.step.downed r.step.dropped) (received graph node own r) (moments_of graph node own) in
+    let same : register plane (moments_of graph node (r ∷ own)) link ≡ register plane before link =
+    register_dropped (ins_of graph node) plane r.step.dropped (with_downed r.step.downed before) link ∙ register_downed plane r.step.downed before link in
+    subst (λ (n : ℕ). n ≤ bound) (sym same) (register_received plane (keeps_links r.step.downed r.step.dropped) (received graph node own r) (moments_of graph node own) link bound low below)
 
 more_received : (b : Bool) (plane : Plane) (graph : Graph) (link bound : ℕ) (past : List Record) (r : Record) → is_own graph (head_of graph link) r ≡ b
-    → greatest_received plane graph link past ≤ bound → ReceivedBelow plane link bound (received (own graph (head_of graph link) past) r)
+    → greatest_received plane graph link past ≤ bound → ReceivedBelow plane link bound (received graph (head_of graph link) (own graph (head_of graph link) past) r)
     → greatest_received plane graph link (r ∷ past) ≤ bound
 more_received true plane graph link bound past r is low below =
-    subst (λ (o : List Record). register plane (moments_of o) link ≤ bound) (sym (own_more graph (head_of graph link) r past is))
-    (register_more plane (own graph (head_of graph link) past) r link bound low below)
+    subst (λ (o : List Record). register plane (moments_of graph (head_of graph link) o) link ≤ bound) (sym (own_more graph (head_of graph link) r past is))
+    (register_more graph (head_of graph link) plane (own graph (head_of graph link) past) r link bound low below)
 more_received false plane graph link bound past r isnt low below =
-    subst (λ (o : List Record). register plane (moments_of o) link ≤ bound) (sym (own_same graph (head_of graph link) r past isnt)) low
+    subst (λ (o : List Record). register plane (moments_of graph (head_of graph link) o) link ≤ bound) (sym (own_same graph (head_of graph link) r past isnt)) low
 
 -- what bounds the greatest field before the record and what it receives, bounds it after the record
 pub received_below : (plane : Plane) (graph : Graph) (link bound : ℕ) (past : List Record) (r : Record) → greatest_received plane graph link past ≤ bound
-    → ReceivedBelow plane link bound (received (own graph (head_of graph link) past) r)
+    → ReceivedBelow plane link bound (received graph (head_of graph link) (own graph (head_of graph link) past) r)
     → greatest_received plane graph link (r ∷ past) ≤ bound
 received_below plane graph link bound past r low below = more_received (is_own graph (head_of graph link) r) plane graph link bound past r refl low below

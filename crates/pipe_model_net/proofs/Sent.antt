@@ -9,7 +9,7 @@ use Rattle.pipe_base.specs.declared.message.Entry.{Entry}
 use Rattle.pipe_base.specs.declared.message.Service.{Service}
 use Rattle.pipe_base.specs.declared.message.Service.TheVariants.{BestEffort, Reliable}
 use Rattle.pipe_base.specs.declared.packet.Packet.{Packet}
-use Rattle.pipe_base.specs.Graph.{Graph}
+use Rattle.pipe_graph.specs.Graph.{Graph}
 use Rattle.pipe_base.specs.Messages.{entry_of}
 use Rattle.pipe_base.specs.Moment.{Moment, is_up}
 use Rattle.pipe_base.specs.Packets.{Fields, ack_to, beacon, forwarded, prepare_to, recall_ack_to, recall_to, sent_to}
@@ -124,7 +124,7 @@ puts_of_own graph past r n run step mine sent =
       resent = λ s among d listed. resent_by graph past r n f s (run, step) mine among d listed;
       recalled = λ s among is d listed. recall_sent (r ∷ past) (record { 0 = n }) s.ts f d;
       passed = λ q at half other.
-          let took = received_took (moments_of o) r.event r.took q at in passed_sent past r f q.1 (sent took.0 q.1 took.1);
+          let took = received_took (moments_of graph n o) r.event r.took q at in passed_sent past r f q.1 (sent took.0 q.1 took.1);
       answered = λ p got host reliable holding. ack_sent (r ∷ past) (record { 0 = n }) f p;
       took_back = λ p got host is. recall_ack_sent (r ∷ past) (record { 0 = n }) f p;
       beacon_too = beacon_sent (r ∷ past) f;

@@ -11,7 +11,7 @@ use Rattle.pipe_base.specs.declared.name.HostId.{HostId}
 use Rattle.pipe_base.specs.declared.name.LinkId.{LinkId}
 use Rattle.pipe_base.specs.declared.name.Ts.{Ts}
 use Rattle.pipe_base.specs.declared.packet.Packet.{Packet}
-use Rattle.pipe_base.specs.Graph.{Graph}
+use Rattle.pipe_graph.specs.Graph.{Graph}
 use Rattle.pipe_base.specs.Packets.{Fields, sent_to}
 use Rattle.pipe_base.specs.Scattering.{Scattering, SenderCall, Began, AreRising, begun, is_begun}
 use Rattle.pipe_base.specs.Settled.{is_recalled, is_settled, unsettled}
@@ -69,7 +69,7 @@ pub back_stays : (graph : Graph) (node : ℕ) (own : List Record) (r : Record) (
 back_stays graph node own r ts step back =
     calls_after (λ (c : List SenderCall). IsTakenBack c ts) graph node own r
     (λ host now stamp dests event is.
-    begun_back (record { ts = stamp; dests = dests }) (sender_calls graph node own) ts (next own) (begun_below_next graph node own)
+    begun_back (record { ts = stamp; dests = dests }) (sender_calls graph node own) ts (next graph node own) (begun_below_next graph node own)
     (stamp_above graph node own r.event stamp (sym step.stamped_is ∙ is)) back)
     (λ past c none was. other_back c past ts none was) back
 
@@ -147,7 +147,7 @@ puts_of_own graph past r n run step mine before =
       resent = λ s among d listed. sent_true Reliable graph (r ∷ past) (record { 0 = n }) s.ts f d;
       recalled = λ s among is d listed kind. put_back graph past r n s run step mine among is;
       passed = λ q at half other.
-          let took = received_took (moments_of o) r.event r.took q at in recall_still graph past r q.1 step (before took.0 q.1 took.1);
+          let took = received_took (moments_of graph n o) r.event r.took q at in recall_still graph past r q.1 step (before took.0 q.1 took.1);
       answered = λ p gets_is host reliable holding kind. cc;
       took_back = λ p gets_is host is kind. cc;
       beacon_too = λ kind. cc;

@@ -12,7 +12,7 @@ use Rattle.pipe_base.specs.declared.name.Ts.{Ts}
 use Rattle.pipe_base.specs.declared.packet.Packet.{Packet}
 use Rattle.pipe_base.specs.declared.packet.Plane.TheVariants as plane
 use Rattle.pipe_base.specs.Barrier.{register}
-use Rattle.pipe_base.specs.Graph.{Graph, ins_of, is_host}
+use Rattle.pipe_graph.specs.Graph.{Graph, ins_of, is_host}
 use Rattle.pipe_base.specs.Moment.{Moment, is_up}
 use Rattle.pipe_base.specs.Packets.{Fields, sent_to}
 use Rattle.pipe_base.proofs.BarrierLaws.{barrier-le_register}
@@ -54,20 +54,20 @@ sender_is_host graph node host known acting = let same : host ≡ node = eqb-tru
 
 -- the barrier of a half after it received a packet is at most what was received on the link of the packet
 barrier_after : (graph : Graph) (past : List Record) (r : Record) (node : ℕ) (q : ℕ × Packet) → IsStep graph past r → is_own graph node r ≡ true
-    → received (own graph node past) r ≡ Some q → IsReceipt graph past node q
+    → received graph node (own graph node past) r ≡ Some q → IsReceipt graph past node q
     → barrier_at plane.BestEffort graph node (r ∷ own graph node past) ≤ greatest_received plane.BestEffort graph q.0 (r ∷ past)
 barrier_after graph past r node q step mine is at =
     let o : List Record = own graph node past in
     let moments = moments_received graph node o r q (step.node node mine) is in
-    let up : is_up (moments_of (r ∷ o)) q.0 ≡ true = subst (λ (ms : List Moment). is_up ms q.0 ≡ true) (sym moments) at.up in
-    let same : register plane.BestEffort (moments_of (r ∷ o)) q.0 ≡ greatest_received plane.BestEffort graph q.0 (r ∷ past) =
-    ap (λ (x : List Record). register plane.BestEffort (moments_of x) q.0) (sym (own_more graph node r past mine)) ∙ at_head graph (r ∷ past) node q.0 at.head in
+    let up : is_up (moments_of graph node (r ∷ o)) q.0 ≡ true = subst (λ (ms : List Moment). is_up ms q.0 ≡ true) (sym moments) at.up in
+    let same : register plane.BestEffort (moments_of graph node (r ∷ o)) q.0 ≡ greatest_received plane.BestEffort graph q.0 (r ∷ past) =
+    ap (λ (x : List Record). register plane.BestEffort (moments_of graph node x) q.0) (sym (own_more graph node r past mine)) ∙ at_head graph (r ∷ past) node q.0 at.head in
     subst (λ (n : ℕ). barrier_at plane.BestEffort graph node (r ∷ o) ≤ n) same
-    (barrier-le_register plane.BestEffort (ins_of graph node) (moments_of (r ∷ o)) q.0 at.among up)
+    (barrier-le_register plane.BestEffort (ins_of graph node) (moments_of graph node (r ∷ o)) q.0 at.among up)
 
 -- what a half passes on is not below its barrier
 forward_above : (graph : Graph) (past : List Record) (r : Record) (node : ℕ) (q : ℕ × Packet) → IsOrderedStep graph past r → is_own graph node r ≡ true
-    → AreSettled graph past → received (own graph node past) r ≡ Some q → is_host graph node ≡ false → IsAbove (fields graph node (own graph node past) r).be q.1
+    → AreSettled graph past → received graph node (own graph node past) r ≡ Some q → is_host graph node ≡ false → IsAbove (fields graph node (own graph node past) r).be q.1
 forward_above graph past r node q step mine settled is half plain =
     let o : List Record = own graph node past in
     let at : IsReceipt graph past node q = receipt graph past r node q step mine is in

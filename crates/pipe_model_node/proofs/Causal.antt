@@ -6,7 +6,7 @@ use Rattle.pipe_base.specs.declared.message.Entry.{Entry}
 use Rattle.pipe_base.specs.declared.message.Service.{Service}
 use Rattle.pipe_base.specs.declared.name.Ts.{Ts}
 use Rattle.pipe_base.specs.Clock.{after_logged}
-use Rattle.pipe_base.specs.Graph.{Graph}
+use Rattle.pipe_graph.specs.Graph.{Graph}
 use Rattle.pipe_model.specs.declared.record.Record.{Record}
 use Rattle.pipe_model.specs.Clock.{next}
 use Rattle.pipe_model.specs.Logged.{log, entries_of}
@@ -28,23 +28,23 @@ logged_below (e ∷ es) =
     (All-weaker (λ (x : Service × Entry). Below (after_logged es) x.1) (λ (x : Service × Entry). Below (after_logged (e ∷ es)) x.1) more es (logged_below es))
 
 -- a host's next timestamp is above all that it logged
-pub log_below_next : (service : Service) (own : List Record) → All (Below (next own)) (log service own)
-log_below_next service [] = All-nil (Below 0)
-log_below_next service (r ∷ own) =
-    let before : (e : Entry) → Below (next own) e → Below (next (r ∷ own)) e = λ e below. omega arith in
-    let now : (e : Entry) → Below (after_logged r.step.logged) e → Below (next (r ∷ own)) e = λ e below. omega arith in
-    All-append (Below (next (r ∷ own))) (log service own) (entries_of service r.step.logged)
-    (All-weaker (Below (next own)) (Below (next (r ∷ own))) before (log service own) (log_below_next service own))
-    (All-weaker (Below (after_logged r.step.logged)) (Below (next (r ∷ own))) now (entries_of service r.step.logged)
+pub log_below_next : (graph : Graph) (node : ℕ) (service : Service) (own : List Record) → All (Below (next graph node own)) (log service own)
+log_below_next graph node service [] = All-nil (Below 0)
+log_below_next graph node service (r ∷ own) =
+    let before : (e : Entry) → Below (next graph node own) e → Below (next graph node (r ∷ own)) e = λ e below. omega arith in
+    let now : (e : Entry) → Below (after_logged r.step.logged) e → Below (next graph node (r ∷ own)) e = λ e below. omega arith in
+    All-append (Below (next graph node (r ∷ own))) (log service own) (entries_of service r.step.logged)
+    (All-weaker (Below (next graph node own)) (Below (next graph node (r ∷ own))) before (log service own) (log_below_next graph node service own))
+    (All-weaker (Below (after_logged r.step.logged)) (Below (next graph node (r ∷ own))) now (entries_of service r.step.logged)
     (entries_all (Below (after_logged r.step.logged)) service r.step.logged (logged_below r.step.logged)))
 
-above_logs : (own : List Record) (o : Option Ts) → ((ts : Ts) → o ≡ Some ts → next own ≤ ts.0) → IfSome o (λ ts. IsAboveLogs ts.0 own)
-above_logs own None above = tt
-above_logs own (Some ts) above = λ service.
-    let le : next own ≤ ts.0 = above ts refl in
-    All-weaker (Below (next own)) (Below ts.0) (λ (e : Entry) below. omega arith) (log service own) (log_below_next service own)
+above_logs : (graph : Graph) (node : ℕ) (own : List Record) (o : Option Ts) → ((ts : Ts) → o ≡ Some ts → next graph node own ≤ ts.0) → IfSome o (λ ts. IsAboveLogs ts.0 own)
+above_logs graph node own None above = tt
+above_logs graph node own (Some ts) above = λ service.
+    let le : next graph node own ≤ ts.0 = above ts refl in
+    All-weaker (Below (next graph node own)) (Below ts.0) (λ (e : Entry) below. omega arith) (log service own) (log_below_next graph node service own)
 
 pub node_causal : (graph : Graph) (node : ℕ) (own : List Record) → IsNodeHistory graph node own → IsCausal own
 node_causal graph node [] history = tt
 node_causal graph node (r ∷ own) history =
-    (node_causal graph node own history.0, above_logs own r.step.stamped (λ ts is. stamp_above graph node own r.event ts (sym history.1.stamped_is ∙ is)))
+    (node_causal graph node own history.0, above_logs graph node own r.step.stamped (λ ts is. stamp_above graph node own r.event ts (sym history.1.stamped_is ∙ is)))

@@ -9,7 +9,7 @@ use Rattle.pipe_base.specs.declared.control.Control.{Control}
 use Rattle.pipe_base.specs.declared.control.Control.TheVariants.{Freeze}
 use Rattle.pipe_base.specs.declared.name.LinkId.{LinkId}
 use Rattle.pipe_base.specs.declared.name.Ts.{Ts}
-use Rattle.pipe_base.specs.Graph.{Graph, all_links, head_of, ins_of, link_id}
+use Rattle.pipe_graph.specs.Graph.{Graph, all_links, head_of, ins_of, link_id}
 use Rattle.pipe_base.specs.Moment.{Moment, WentDown, has_link, is_up, keeps_links, with_downed, with_received}
 use Rattle.pipe_base.specs.Silence.{goes_down, is_silent, mark_of, quiet_start}
 use Rattle.pipe_model.specs.declared.event.Event.{Event}
@@ -73,16 +73,16 @@ pub record AreNew (moments : List Moment) (ds : List (LinkId × Ts)) : Type 0 wh
 none_new : (moments : List Moment) → AreNew moments []
 none_new moments = record { ups = All-nil (IsUp moments); differ = λ i j d lt within. absurd (omega arith) }
 
-silent_new : (graph : Graph) (node now : ℕ) (own : List Record) → AreNew (moments_of own) (map (mark_of (moments_of own)) (filter (goes_down graph.patience (moments_of own) (quiet_calls own) now) (ins_of graph node)))
+silent_new : (graph : Graph) (node now : ℕ) (own : List Record) → AreNew (moments_of graph node own) (map (mark_of (moments_of graph node own)) (filter (goes_down graph.patience (moments_of graph node own) (quiet_calls graph node own) now) (ins_of graph node)))
 silent_new graph node now own =
-    let moments : List Moment = moments_of own in
-    let goes : LinkId → Bool = goes_down graph.patience moments (quiet_calls own) now in
+    let moments : List Moment = moments_of graph node own in
+    let goes : LinkId → Bool = goes_down graph.patience moments (quiet_calls graph node own) now in
     let going : List LinkId = filter goes (ins_of graph node) in
     record {
       ups =
           All-map (IsUp moments) (mark_of moments) going
           (All-weaker (λ (l : LinkId). goes l ≡ true) (λ (l : LinkId). is_up moments l.0 ≡ true)
-          (λ l is. (and_parts (is_up moments l.0) (is_silent graph.patience now (quiet_start (quiet_calls own) l.0)) is).0) going (filter_passes goes (ins_of graph node)));
+          (λ l is. (and_parts (is_up moments l.0) (is_silent graph.patience now (quiet_start (quiet_calls graph node own) l.0)) is).0) going (filter_passes goes (ins_of graph node)));
       differ =
           pairs_map OfOthers (mark_of moments) going
           (AllPairs-filter AreTwo goes (ins_of graph node) (AllPairs-filter AreTwo (λ l. head_of graph l.0 == node) (all_links graph) (links_differ graph)));
@@ -100,10 +100,10 @@ told_new ins moments (Freeze l) = either (has_link l.0 ins) (is_up moments l.0) 
     either false b is = none_new moments
 told_new ins moments _ = none_new moments
 
-new_by : (graph : Graph) (node : ℕ) (own : List Record) (event : Event) (took : Took) → AreNew (moments_of own) (downed_by graph node own event took)
+new_by : (graph : Graph) (node : ℕ) (own : List Record) (event : Event) (took : Took) → AreNew (moments_of graph node own) (downed_by graph node own event took)
 new_by graph node own (Tick n now) took = silent_new graph node now.0 own
-new_by graph node own (ControlTake place keep) (Message a) = told_new (ins_of graph node) (moments_of own) a.control
-new_by graph node own _ _ = none_new (moments_of own)
+new_by graph node own (ControlTake place keep) (Message a) = told_new (ins_of graph node) (moments_of graph node own) a.control
+new_by graph node own _ _ = none_new (moments_of graph node own)
 
 -- ---- what a node marked is up no more
 
@@ -113,15 +113,15 @@ listed_down (d ∷ ds) past =
     let first : is_up (WentDown d.0.0 ∷ past) d.0.0 ≡ false = let same : (d.0.0 == d.0.0) ≡ true = eq-eqb d.0.0 d.0.0 refl in rw same refl in
     All-cons (IsDown (with_downed ds (WentDown d.0.0 ∷ past))) d ds (down_downed ds (WentDown d.0.0 ∷ past) d.0.0 first) (listed_down ds (WentDown d.0.0 ∷ past))
 
-marks_down : (own : List Record) → All (IsDown (moments_of own)) (marks own)
-marks_down [] = All-nil (IsDown [])
-marks_down (r ∷ own) =
-    let now : List Moment = moments_of (r ∷ own) in
+marks_down : (graph : Graph) (node : ℕ) (own : List Record) → All (IsDown (moments_of graph node own)) (marks own)
+marks_down graph node [] = All-nil (IsDown [])
+marks_down graph node (r ∷ own) =
+    let now : List Moment = moments_of graph node (r ∷ own) in
     let ds : List (LinkId × Ts) = r.step.downed in
-    let received_too : List Moment = with_received (keeps_links ds r.step.dropped) (received own r) (moments_of own) in
+    let received_too : List Moment = with_received (keeps_links ds r.step.dropped) (received graph node own r) (moments_of graph node own) in
     All-append (IsDown now) (marks own) ds
-    (All-weaker (IsDown (moments_of own)) (IsDown now) (λ (m : LinkId × Ts) down. down_still own r m.0.0 down) (marks own) (marks_down own))
-    (All-weaker (IsDown (with_downed ds received_too)) (IsDown now) (λ (m : LinkId × Ts) down. down_dropped r.step.dropped (with_downed ds received_too) m.0.0 down) ds (listed_down ds received_too))
+    (All-weaker (IsDown (moments_of graph node own)) (IsDown now) (λ (m : LinkId × Ts) down. down_still graph node own r m.0.0 down) (marks own) (marks_down graph node own))
+    (All-weaker (IsDown (with_downed ds received_too)) (IsDown now) (λ (m : LinkId × Ts) down. down_dropped (ins_of graph node) r.step.dropped (with_downed ds received_too) m.0.0 down) ds (listed_down ds received_too))
 
 across : (before : List Moment) (ms ds : List (LinkId × Ts)) → All (IsDown before) ms → All (IsUp before) ds → All (λ m. All (OfOthers m) ds) ms
 across before ms ds downs ups =
@@ -132,6 +132,6 @@ across before ms ds downs ups =
 pub marked_once : (graph : Graph) (node : ℕ) (own : List Record) → IsNodeHistory graph node own → AllPairs OfOthers (marks own)
 marked_once graph node [] history = λ i j d lt within. absurd (omega arith)
 marked_once graph node (r ∷ own) history =
-    let new : AreNew (moments_of own) r.step.downed = subst (AreNew (moments_of own)) (sym history.1.downed_is) (new_by graph node own r.event r.took) in
+    let new : AreNew (moments_of graph node own) r.step.downed = subst (AreNew (moments_of graph node own)) (sym history.1.downed_is) (new_by graph node own r.event r.took) in
     pairs_both OfOthers (marks own) r.step.downed (marked_once graph node own history.0) new.differ
-    (across (moments_of own) (marks own) r.step.downed (marks_down own) new.ups)
+    (across (moments_of graph node own) (marks own) r.step.downed (marks_down graph node own) new.ups)

@@ -9,7 +9,7 @@ use Rattle.pipe_base.specs.declared.message.Service.{Service}
 use Rattle.pipe_base.specs.declared.packet.Packet.{Packet}
 use Rattle.pipe_base.specs.declared.step.Fate.{Fate}
 use Rattle.pipe_base.specs.declared.step.Fate.TheVariants.{Held}
-use Rattle.pipe_base.specs.Graph.{Graph}
+use Rattle.pipe_graph.specs.Graph.{Graph}
 use Rattle.pipe_base.specs.Messages.{Messages, Before, IsInOrder, entry_of, from_barrier, below_barrier}
 use Rattle.pipe_base.proofs.KeyOrder.{order_with, order_filter}
 use Rattle.pipe_model.specs.declared.record.Record.{Record}

@@ -15,7 +15,7 @@ use Rattle.pipe_base.specs.declared.step.Fate.{Fate}
 use Rattle.pipe_base.specs.declared.step.Fate.TheVariants.{Held, Late}
 use Rattle.pipe_base.specs.Failed.{is_void, time_of, without_void}
 use Rattle.pipe_base.specs.Fate.{fate_from}
-use Rattle.pipe_base.specs.Graph.{Graph}
+use Rattle.pipe_graph.specs.Graph.{Graph}
 use Rattle.pipe_base.specs.Messages.{Messages, below_barrier, entry_of, from_barrier, has_key, same_key}
 use Rattle.pipe_base.proofs.MessageLaws.{has_from, has_with}
 use Rattle.pipe_model.specs.declared.record.Record.{Record}

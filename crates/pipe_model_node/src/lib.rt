@@ -12,7 +12,7 @@ ghost use Rattle.pipe_base.specs.declared.packet.Plane.{Plane};
 ghost use Rattle.pipe_base.specs.declared.packet.Plane.TheVariants.{Commit};
 ghost use Rattle.pipe_base.specs.Barrier.{register};
 ghost use Rattle.pipe_base.specs.Failed.{is_void};
-ghost use Rattle.pipe_base.specs.Graph.{Graph, ins_of};
+ghost use Rattle.pipe_graph.specs.Graph.{Graph, ins_of};
 ghost use Rattle.pipe_base.specs.Limits.{most_unsettled};
 ghost use Rattle.pipe_base.specs.Messages.{has_key};
 ghost use Rattle.pipe_base.specs.Moment.{has_link, is_used};
@@ -32,7 +32,8 @@ ghost use Rattle.pipe_model.specs.Sender.{sender_calls};
 
 /// Whatever one node is handed, each of its logs rises strictly by timestamp and sender.
 pub fn logs_of_a_node_rise()
-    ensures { (graph : Graph) (node : ℕ) (own : List Record) → IsNodeHistory graph node own → (service : Service) → IsRising (log service own) }
+    ensures { (graph : Graph) (node : ℕ) (own : List Record) → IsNodeHistory graph node own → (service : Service)
+        → IsRising (log service own) }
 {}
 
 /// Whatever one node is handed, each of its stamps is above all that it logged before.
@@ -52,17 +53,22 @@ pub fn stamps_of_a_run_are_causal()
 
 /// While an in-link of a node is in use in a plane, the node's barrier of that plane is at most what was received on the link.
 pub fn use_bounds_barrier()
-    ensures { (plane : Plane) (graph : Graph) (node : ℕ) (own : List Record) (link : ℕ) → has_link link (ins_of graph node) ≡ true
-        → is_used plane (moments_of own) link ≡ true → barrier_at plane graph node own ≤ register plane (moments_of own) link }
+    ensures { (plane : Plane) (graph : Graph) (node : ℕ) (own : List Record) (link : ℕ)
+        → has_link link (ins_of graph node) ≡ true
+        → is_used plane (moments_of graph node own) link ≡ true
+        → barrier_at plane graph node own ≤ register plane (moments_of graph node own) link }
 {}
 
 /// Whatever one node is handed, where a link is marked with a value its commit register is that value, now and, as marks stay,
 /// later; and no link is marked twice.
 pub fn marks_are_frozen()
-    ensures frozen { (graph : Graph) (node : ℕ) (own : List Record) (link : ℕ) (value : Ts) → IsNodeHistory graph node own
-        → mark own link ≡ Some value → register Commit (moments_of own) link ≡ value.0 }
-    ensures stay { (own : List Record) (r : Record) (link : ℕ) (value : Ts) → mark own link ≡ Some value → mark (r ∷ own) link ≡ Some value }
-    ensures once { (graph : Graph) (node : ℕ) (own : List Record) → IsNodeHistory graph node own → AllPairs (λ a b. a.0.0 ≢ b.0.0) (marks own) }
+    ensures frozen { (graph : Graph) (node : ℕ) (own : List Record) (link : ℕ) (value : Ts)
+        → IsNodeHistory graph node own
+        → mark own link ≡ Some value → register Commit (moments_of graph node own) link ≡ value.0 }
+    ensures stay { (own : List Record) (r : Record) (link : ℕ) (value : Ts) → mark own link ≡ Some value
+        → mark (r ∷ own) link ≡ Some value }
+    ensures once { (graph : Graph) (node : ℕ) (own : List Record) → IsNodeHistory graph node own
+        → AllPairs (λ a b. a.0.0 ≢ b.0.0) (marks own) }
 {}
 
 /// The promise never falls, whatever one node is handed. It is at most the next timestamp, and no scattering below it is
@@ -70,32 +76,39 @@ pub fn marks_are_frozen()
 pub fn promises_rise()
     ensures rises { (graph : Graph) (node : ℕ) (own : List Record) (r : Record) → IsNodeHistory graph node (r ∷ own)
         → promise graph node own ≤ promise graph node (r ∷ own) }
-    ensures within { (graph : Graph) (node : ℕ) (own : List Record) → promise graph node own ≤ next own }
-    ensures bounds { (graph : Graph) (node : ℕ) (own : List Record) → All (λ s. promise graph node own ≤ s.ts.0) (unsettled (sender_calls graph node own)) }
+    ensures within { (graph : Graph) (node : ℕ) (own : List Record) → promise graph node own ≤ next graph node own }
+    ensures bounds { (graph : Graph) (node : ℕ) (own : List Record)
+        → All (λ s. promise graph node own ≤ s.ts.0) (unsettled (sender_calls graph node own)) }
 {}
 
 /// What is settled stays settled.
 pub fn settled_scatterings_stay()
-    ensures { (graph : Graph) (node : ℕ) (own : List Record) (r : Record) (s : Scattering) → is_settled (sender_calls graph node own) s ≡ true
+    ensures { (graph : Graph) (node : ℕ) (own : List Record) (r : Record) (s : Scattering)
+        → is_settled (sender_calls graph node own) s ≡ true
         → is_settled (sender_calls graph node (r ∷ own)) s ≡ true }
 {}
 
 /// A host begins its reliable scatterings in rising order, all below its next timestamp.
 pub fn scatterings_rise()
-    ensures rise { (graph : Graph) (node : ℕ) (own : List Record) → IsNodeHistory graph node own → AreRising (begun (sender_calls graph node own)) }
-    ensures below { (graph : Graph) (node : ℕ) (own : List Record) → All (λ s. s.ts.0 < next own) (begun (sender_calls graph node own)) }
+    ensures rise { (graph : Graph) (node : ℕ) (own : List Record) → IsNodeHistory graph node own
+        → AreRising (begun (sender_calls graph node own)) }
+    ensures below { (graph : Graph) (node : ℕ) (own : List Record)
+        → All (λ s. s.ts.0 < next graph node own) (begun (sender_calls graph node own)) }
 {}
 
 /// Whatever one node is handed, no more of its reliable scatterings are unsettled than the window has.
 pub fn windows_hold()
-    ensures { (graph : Graph) (node : ℕ) (own : List Record) → IsNodeHistory graph node own → length (unsettled (sender_calls graph node own)) ≤ most_unsettled }
+    ensures { (graph : Graph) (node : ℕ) (own : List Record) → IsNodeHistory graph node own
+        → length (unsettled (sender_calls graph node own)) ≤ most_unsettled }
 {}
 
 /// Whatever one node is handed, a reliable message that it held, and that its commit barrier has passed, is in its log, unless
 /// the message was taken back or its sender is noted as failed by then.
 pub fn passed_messages_are_logged()
-    ensures { (graph : Graph) (node : ℕ) (own : List Record) (key : Key) → IsNodeHistory graph node own → has_key key (held Reliable graph node own) ≡ true
-        → got_recall graph node key own ≡ false → is_void (noted_hosts own) key ≡ false → key.ts.0 < barrier_at Commit graph node own → has_logged key own ≡ true }
+    ensures { (graph : Graph) (node : ℕ) (own : List Record) (key : Key) → IsNodeHistory graph node own
+        → has_key key (held Reliable graph node own) ≡ true
+        → got_recall graph node key own ≡ false → is_void (noted_hosts own) key ≡ false
+        → key.ts.0 < barrier_at Commit graph node own → has_logged key own ≡ true }
 {}
 
 /// Whatever one node is handed, a message that it was told to take back before its commit barrier was above the timestamp is

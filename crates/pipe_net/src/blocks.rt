@@ -70,7 +70,8 @@ pub fn push<T: Drop>(blocks: &mut Blocks<T>, item: T) -> Result<(), NoMemory>
 pub fn take<T: Drop>(blocks: &mut Blocks<T>, place: Place) -> Option<T>
     requires { (n : ℕ) × IsPlace blocks.old.items n place }
     ensures item { (n : ℕ) → IsPlace blocks.old.items n place → result ≡ slice_get (joined blocks.old.items) n }
-    ensures left { (n : ℕ) → IsPlace blocks.old.items n place → joined blocks.new.items ≡ remove (joined blocks.old.items) n }
+    ensures left { (n : ℕ) → IsPlace blocks.old.items n place
+        → joined blocks.new.items ≡ remove (joined blocks.old.items) n }
 {
     let block = &mut blocks[place.block];
     let item = remove(block, place.at);

@@ -18,7 +18,8 @@ before (Some p) ps = p ∷ ps
 -- an answer concerns the scattering with its timestamp, which goes where it is settled by that
 abbrev pub answered : Answer → ℕ → ℕ → List Pending → List Pending
 answered answer ts host [] = []
-answered answer ts host (p ∷ ps) = if p.ts.0 == ts then before (after_answer answer host p) ps else p ∷ answered answer ts host ps
+answered answer ts host (p ∷ ps) =
+    if p.ts.0 == ts then before (after_answer answer host p) ps else p ∷ answered answer ts host ps
 
 -- after an acknowledgement
 abbrev pub after_ack : ℕ → ℕ → List Pending → List Pending
@@ -50,11 +51,13 @@ first_or next (p ∷ ps) = p.ts.0
 
 -- the receiver is not waited for: it has acknowledged the scattering, or, where that is recalled, it failed or took it back
 abbrev pub has_answered : List SenderCall → Scattering → (HostId × List ℕ) → Bool
-has_answered calls s d = if is_recalled calls s then is_noted calls d.0.0 || is_recall_acked calls s d.0.0 else is_acked calls s.ts.0 d.0.0
+has_answered calls s d = if is_recalled calls s then is_noted calls d.0.0
+    || is_recall_acked calls s d.0.0 else is_acked calls s.ts.0 d.0.0
 
 -- what is kept of a scattering that is not settled
 abbrev pub kept_of : List SenderCall → Scattering → Pending
-kept_of calls s = record { ts = s.ts; dests = s.dests; marks = map (has_answered calls s) s.dests; recalled = is_recalled calls s }
+kept_of calls s =
+    record { ts = s.ts; dests = s.dests; marks = map (has_answered calls s) s.dests; recalled = is_recalled calls s }
 
 -- What is kept is what the calls made leave unsettled. Each scattering was begun above those before it.
 pub record Stands (calls : List SenderCall) (kept : List Pending) : Type 0 where

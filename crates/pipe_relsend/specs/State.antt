@@ -21,14 +21,17 @@ pending_of (Recalling p) = record p { recalled = true }
 -- A step by an acknowledgement of this host: prepared exactly where no receiver is left without a mark.
 abbrev pub IsAckStep : Pending → ℕ → AckStep → Type 0
 IsAckStep old host (acking.Still new) = (is_open (with_mark host old) ≡ true) × (new ≡ with_mark host old)
-IsAckStep old host (acking.Ready new) = (is_open (with_mark host old) ≡ false) × (new.ts ≡ old.ts) × (new.dests ≡ old.dests)
+IsAckStep old host (acking.Ready new) = (is_open (with_mark host old) ≡ false) × (new.ts ≡ old.ts)
+    × (new.dests ≡ old.dests)
 
 -- A step as failed hosts are noted: recalled exactly where one of them is a receiver without a mark, and gone where no other
 -- receiver is left.
 abbrev pub IsFailStep : Pending → List Announced → FailStep → Type 0
 IsFailStep old failed (failing.Still new) = (has_lost failed old ≡ false) × (new ≡ old)
-IsFailStep old failed (failing.Recall new) = (has_lost failed old ≡ true) × (is_open (taken_back failed old) ≡ true) × (new ≡ taken_back failed old)
-IsFailStep old failed (failing.Gone new) = (has_lost failed old ≡ true) × (is_open (taken_back failed old) ≡ false) × (new.ts ≡ old.ts) × (new.dests ≡ old.dests)
+IsFailStep old failed (failing.Recall new) = (has_lost failed old ≡ true) × (is_open (taken_back failed old) ≡ true)
+    × (new ≡ taken_back failed old)
+IsFailStep old failed (failing.Gone new) = (has_lost failed old ≡ true) × (is_open (taken_back failed old) ≡ false)
+    × (new.ts ≡ old.ts) × (new.dests ≡ old.dests)
 
 -- A step of a recalled scattering to one with more marks: gone exactly where no receiver is left without one.
 abbrev pub IsRecallStep : Pending → Pending → RecallStep → Type 0

@@ -1,8 +1,7 @@
 // The packets of a scattering that are put again.
 ghost use Rattle.std.specs.Prelude.{◌≡◌, ◌<◌, ◌≤◌, ◌+◌, ◌^◌, ◌∷◌, [], length, map, IfOk, OnErr, OnOk};
 ghost use Rattle.pipe_base.specs.Limits.{most_receivers};
-ghost use Rattle.pipe_base.specs.ShortestRoute.{picked};
-ghost use Rattle.pipe_base.specs.Ways.{PutsAlone, with_ways};
+ghost use Rattle.pipe_base.specs.Ways.{picked, PutsAlone, with_ways};
 ghost use Rattle.pipe_relsend.specs.Pending.{open_dests};
 ghost use Rattle.pipe_relsend.specs.Header.{packet_again};
 

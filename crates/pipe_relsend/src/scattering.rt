@@ -2,8 +2,7 @@
 ghost use Rattle.std.specs.Prelude.{◌≡◌, ◌<◌, ◌≤◌, ◌+◌, ◌^◌, length, map, IfOk, OnErr, OnOk};
 ghost use Rattle.pipe_base.specs.Limits.{most_receivers};
 ghost use Rattle.pipe_base.specs.Packets.{prepare_to, recall_to};
-ghost use Rattle.pipe_base.specs.ShortestRoute.{picked};
-ghost use Rattle.pipe_base.specs.Ways.{PutsAlone, with_ways};
+ghost use Rattle.pipe_base.specs.Ways.{picked, PutsAlone, with_ways};
 ghost use Rattle.pipe_relsend.specs.Header.{fields_of};
 ghost use Rattle.pipe_relsend.specs.Pending.{is_marked, is_open, is_waited_for, open_dests, started, with_failed, with_mark};
 ghost use Rattle.pipe_relsend.specs.State.{IsAckStep, IsFailStep, IsRecallStep};

@@ -6,8 +6,7 @@ ghost use Rattle.pipe_base.specs.Promise.{promise_of};
 ghost use Rattle.pipe_base.specs.Resends.{resends};
 ghost use Rattle.pipe_base.specs.Scattering.{Scattering, SenderCall, Acked, Began, IsAboveBegun, RecallAcked, Noted as HasNoted};
 ghost use Rattle.pipe_base.specs.Settled.{is_recalled, unsettled};
-ghost use Rattle.pipe_base.specs.ShortestRoute.{picked};
-ghost use Rattle.pipe_base.specs.Ways.{PutsAlone, with_ways};
+ghost use Rattle.pipe_base.specs.Ways.{picked, PutsAlone, with_ways};
 ghost use Rattle.pipe_relsend.specs.Header.{fields_of};
 ghost use Rattle.pipe_relsend.specs.Pending.{Pending, owed, started};
 ghost use Rattle.pipe_relsend.specs.Sending.{IsPlaceOf, KnowsAll, Stands, after_ack, after_recall_ack, answered, first_or, noted};
@@ -93,7 +92,8 @@ impl Sender {
     /// Undoes the last `begin`, for a step that is refused. Takes no memory.
     pub fn unbegin(&mut self)
         ensures undoes { (before : List Pending) (last : Pending) → self.old ≡ before ++ last ∷ [] → self.new ≡ before }
-        ensures stands { (calls : List SenderCall) (s : Scattering) → Stands (Began s ∷ calls) self.old → 0 < length s.dests → Stands calls self.new }
+        ensures stands { (calls : List SenderCall) (s : Scattering) → Stands (Began s ∷ calls) self.old
+            → 0 < length s.dests → Stands calls self.new }
     {
         if let Some(unsettled) = self.pending.pop() {
             unsettled.end();
@@ -103,7 +103,8 @@ impl Sender {
     /// A host has acknowledged the scattering with this timestamp, which counts where that is not recalled. Takes no memory.
     pub fn ack(&mut self, ts: Ts, host: HostId)
         ensures value { self.new ≡ after_ack ts.0 host.0 self.old }
-        ensures stands { (calls : List SenderCall) → Stands calls self.old → Stands (Acked ts.0 host.0 ∷ calls) self.new }
+        ensures stands { (calls : List SenderCall) → Stands calls self.old
+            → Stands (Acked ts.0 host.0 ∷ calls) self.new }
     {
         answer_among(&mut self.pending, Answer::Ack, ts, host);
     }
@@ -112,7 +113,8 @@ impl Sender {
     /// memory.
     pub fn recall_ack(&mut self, ts: Ts, host: HostId)
         ensures value { self.new ≡ after_recall_ack ts.0 host.0 self.old }
-        ensures stands { (calls : List SenderCall) → Stands calls self.old → Stands (RecallAcked ts.0 host.0 ∷ calls) self.new }
+        ensures stands { (calls : List SenderCall) → Stands calls self.old
+            → Stands (RecallAcked ts.0 host.0 ∷ calls) self.new }
     {
         answer_among(&mut self.pending, Answer::RecallAck, ts, host);
     }
@@ -121,7 +123,8 @@ impl Sender {
     /// recalled one waits for them. Takes no memory.
     pub fn note(&mut self, failed: &Noted)
         ensures value { self.new ≡ noted failed.now self.old }
-        ensures stands { (calls : List SenderCall) → Stands calls self.old → KnowsAll failed.now calls → Stands (HasNoted failed.now ∷ calls) self.new }
+        ensures stands { (calls : List SenderCall) → Stands calls self.old → KnowsAll failed.now calls
+            → Stands (HasNoted failed.now ∷ calls) self.new }
     {
         note_among(&mut self.pending, failed);
     }
@@ -131,7 +134,8 @@ impl Sender {
     pub fn promise(&self, next: Ts) -> Ts
         ensures value { result.0 ≡ first_or next.0 self.now }
         ensures stands { (calls : List SenderCall) → Stands calls self.now → result.0 ≡ promise_of next.0 calls }
-        ensures begun { (calls : List SenderCall) (s : Scattering) → Stands calls self.now → IsAboveBegun s.ts.0 calls → 0 < length s.dests
+        ensures begun { (calls : List SenderCall) (s : Scattering) → Stands calls self.now → IsAboveBegun s.ts.0 calls
+            → 0 < length s.dests
             → s.ts ≡ next → (later : ℕ) → result.0 ≡ promise_of later (Began s ∷ calls) }
     {
         first_ts(self.pending.as_slice(), next)
@@ -140,7 +144,8 @@ impl Sender {
     /// Whether some scattering is recalled and waits for a receiver.
     pub fn is_recalling(&self) -> bool
         ensures value { result ≡ list_any (λ p. p.recalled) self.now }
-        ensures stands { (calls : List SenderCall) → Stands calls self.now → result ≡ list_any (λ s. is_recalled calls s) (unsettled calls) }
+        ensures stands { (calls : List SenderCall) → Stands calls self.now
+            → result ≡ list_any (λ s. is_recalled calls s) (unsettled calls) }
     {
         any_recalled(self.pending.as_slice())
     }

@@ -1,8 +1,7 @@
 // A reliable scattering that is not settled, in one of its two states.
 ghost use Rattle.std.specs.Prelude.{◌≡◌, ◌<◌, ◌≤◌, ◌+◌, ◌^◌, false, is_some, true, IfOk, OnErr, OnOk};
 ghost use Rattle.pipe_base.specs.Limits.{most_receivers};
-ghost use Rattle.pipe_base.specs.ShortestRoute.{picked};
-ghost use Rattle.pipe_base.specs.Ways.{PutsAlone, with_ways};
+ghost use Rattle.pipe_base.specs.Ways.{picked, PutsAlone, with_ways};
 ghost use Rattle.pipe_relsend.specs.Header.{fields_of};
 ghost use Rattle.pipe_relsend.specs.Pending.{Pending, owed};
 ghost use Rattle.pipe_relsend.specs.State.{IsRecallStep, after_answer, after_note, where_open};
@@ -159,7 +158,8 @@ fn failed(preparing: Preparing, noted: &Noted) -> Option<Unsettled>
 
 /// What is left of a recalled scattering.
 fn left(step: RecallStep) -> Option<Unsettled>
-    ensures { (old more : Pending) → IsRecallStep old more step → result ≡ where_open (record more { recalled = true }) }
+    ensures { (old more : Pending) → IsRecallStep old more step
+        → result ≡ where_open (record more { recalled = true }) }
 {
     match step {
         RecallStep::Still(recalling) => Some(Unsettled::recalled(recalling)),

@@ -38,7 +38,8 @@ abbrev pub message_key : Message → Key
 message_key m = record { ts = m.ts; src = m.src }
 
 abbrev pub empty_buffer : Service → Buffer
-empty_buffer service = record { service = service; barrier = 0; failed = []; tombstones = []; newest = None; messages = [] }
+empty_buffer service =
+    record { service = service; barrier = 0; failed = []; tombstones = []; newest = None; messages = [] }
 
 -- the buffer with one message more, at its place in the order
 abbrev pub buffer_with : Key → List ℕ → Buffer → Buffer
@@ -76,7 +77,8 @@ is_buried_by barrier tombstones key = nat_le barrier key.ts.0 && not (has_tombst
 
 -- the tombstones with that of this key
 abbrev pub with_tombstone : ℕ → Key → List Key → List Key
-with_tombstone barrier key tombstones = if is_buried_by barrier tombstones key then insert_key key_cmp tombstones key else tombstones
+with_tombstone barrier key tombstones =
+    if is_buried_by barrier tombstones key then insert_key key_cmp tombstones key else tombstones
 
 -- the newest tombstone then: that of this key, where it is new
 abbrev pub newest_with : ℕ → Key → List Key → Option Key
@@ -84,7 +86,8 @@ newest_with barrier key tombstones = if is_buried_by barrier tombstones key then
 
 -- the buffer with the tombstone of this key
 abbrev pub with_buried : Key → Buffer → Buffer
-with_buried key b = record b { tombstones = with_tombstone b.barrier key b.tombstones; newest = newest_with b.barrier key b.tombstones }
+with_buried key b =
+    record b { tombstones = with_tombstone b.barrier key b.tombstones; newest = newest_with b.barrier key b.tombstones }
 
 -- the tombstones but for the newest one
 abbrev pub but_newest : Option Key → List Key → List Key
@@ -124,4 +127,5 @@ with_placed _ key body b = b
 
 -- the log grew by some first ones of the entries
 abbrev pub AppendsSome : List (Service × Entry) → List (Service × Entry) → List (Service × Entry) → Type 0
-AppendsSome old entries new = (done : List (Service × Entry)) × (rest : List (Service × Entry)) × (new ≡ old ++ done) × (entries ≡ done ++ rest)
+AppendsSome old entries new = (done : List (Service × Entry)) × (rest : List (Service × Entry)) × (new ≡ old ++ done)
+    × (entries ≡ done ++ rest)

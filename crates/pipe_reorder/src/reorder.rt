@@ -4,13 +4,10 @@ ghost use Rattle.pipe_base.specs.declared.control.Announced.{Announced as AAnnou
 ghost use Rattle.pipe_base.specs.Failed.{is_void, past_known, time_of, without_void};
 ghost use Rattle.pipe_base.specs.Fate.{fate_among, fate_of};
 ghost use Rattle.pipe_base.specs.Messages.{IsInOrder, has_key, below_barrier, from_barrier, AreBelow};
-ghost use Rattle.pipe_reorder.specs.Buffer.{Buffer, adopted, empty_buffer, buffer_with, buffer_without, passed_by, left_by};
-ghost use Rattle.pipe_reorder.specs.Buffer.{but_newest, has_tombstone, keys_from, let_out, with_buried, with_no_buried, with_recalled, with_unburied};
-ghost use Rattle.pipe_reorder.specs.Buffer.{message_key, with_failed, with_no_void, with_placed, AppendsSome};
+ghost use Rattle.pipe_reorder.specs.Buffer.{Buffer, adopted, empty_buffer, buffer_with, buffer_without, passed_by, left_by, but_newest, has_tombstone, keys_from, let_out, with_buried, with_no_buried, with_recalled, with_unburied, message_key, with_failed, with_no_void, with_placed, AppendsSome};
 
 use pipe_base::{
-    Announced, AnnouncedList, Body, Entry, Fate, HostId, Key, LoggedList, Message, NoMemory, Noted,
-    Service, Ts,
+    Announced, Body, Entry, Fate, HostId, Key, LoggedList, Message, NoMemory, Noted, Service, Ts,
 };
 use std::alloc::Global;
 use std::collections::{BTreeMap, BTreeSet};
@@ -115,19 +112,20 @@ impl Reorder {
 
     /// Takes over the failed hosts of an announcement past the number of those known, and answers how many. What is void by
     /// them is held until `drop_void`.
-    pub fn adopt(&mut self, list: &AnnouncedList) -> Result<usize, NoMemory>
+    pub fn adopt(&mut self, list: &[Announced]) -> Result<usize, NoMemory>
         ensures ok { OnOk result (self.new ≡ adopted list.now self.old) }
         ensures count { IfOk result (λ count. count ≡ length (past_known self.old.failed list.now)) }
         ensures err { OnErr result (self.new ≡ self.old) }
     {
-        self.failed.adopt(list)
+        Ok(usize::from(self.failed.adopt(list)?))
     }
 
     /// Knows of the last so many failed hosts no more: the way back from an `adopt` that answered this count. Takes no memory.
     pub fn unadopt(&mut self, count: usize)
-        ensures { (before : Buffer) (failed : List AAnnounced) → count ≡ length failed → self.old ≡ with_failed failed before → self.new ≡ before }
+        ensures { (before : Buffer) (failed : List AAnnounced) → count ≡ length failed
+            → self.old ≡ with_failed failed before → self.new ≡ before }
     {
-        let kept = self.failed.count().saturating_sub(count);
+        let kept = usize::from(self.failed.count()).saturating_sub(count);
         self.failed.truncate(kept);
     }
 
@@ -180,7 +178,7 @@ impl Reorder {
     }
 
     /// From now on no tombstone is the newest.
-    pub fn settle(&mut self)
+    pub fn forget_newest(&mut self)
         ensures { self.new ≡ record self.old { newest = None } }
     {
         self.newest = None;
@@ -189,7 +187,8 @@ impl Reorder {
     /// Takes the newest tombstone away: the way back from a `bury`, with the one that was the newest before. Takes no memory.
     pub fn unbury(&mut self, before: Option<Key>)
         ensures removes { self.new ≡ with_unburied before self.old }
-        ensures undoes { (buffer : Buffer) (key : Key) → before ≡ buffer.newest → self.old ≡ with_buried key buffer → self.new ≡ buffer }
+        ensures undoes { (buffer : Buffer) (key : Key) → before ≡ buffer.newest → self.old ≡ with_buried key buffer
+            → self.new ≡ buffer }
     {
         remove_newest(&mut self.tombstones, self.newest);
         self.newest = before;

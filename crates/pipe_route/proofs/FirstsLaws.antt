@@ -4,20 +4,21 @@ use Rattle.std.proofs.lemmas.Bool.{eqb-true, eq-eqb, ltb-true, lt-ltb}
 use Rattle.std.proofs.lemmas.Bool.Decides.{leb_tells}
 use Rattle.std.proofs.lemmas.List.Elements.{All-more, All-weaker, All-nil}
 use Rattle.pipe_base.specs.declared.name.LinkId.{LinkId}
-use Rattle.pipe_base.specs.Graph.{Graph, IsGraph, tail_of, head_of, link_id, outs_of}
-use Rattle.pipe_base.specs.Path.{LeavesBy, IsPath}
-use Rattle.pipe_base.specs.ShortestRoute.{BeginsShortest, begins_shortest, firsts_of}
+use Rattle.pipe_graph.specs.Graph.{Graph, IsGraph, tail_of, head_of, link_id, outs_of}
+use Rattle.pipe_graph.specs.Path.{LeavesBy, IsPath}
+use Rattle.pipe_graph.specs.ShortestRoute.{BeginsShortest, begins_shortest, firsts_of}
 use Rattle.std.specs.List.{range_with_len}
 use Rattle.std.proofs.lemmas.List.{get_or-map}
 use Rattle.std.proofs.lemmas.List.FromFn.{map-range_with_len_more}
-use Rattle.pipe_paths.proofs.Listed.{listed_all}
-use Rattle.pipe_paths.proofs.ReachLaws.{AreAlike}
+use Rattle.pipe_graph.proofs.Listed.{listed_all}
+use Rattle.pipe_graph.proofs.ReachLaws.{AreAlike}
 use Rattle.pipe_topo.specs.Sets.{has, lacks}
-use Rattle.pipe_paths.proofs.RouteLaws.{filter_alike, outs_all}
-use Rattle.pipe_paths.proofs.Shortest.{begins_gives, begins_from, rest_few}
-use Rattle.pipe_paths.proofs.Tests.{and_parts, and_both, same_tests}
+use Rattle.pipe_graph.proofs.RouteLaws.{filter_alike, outs_all}
+use Rattle.pipe_graph.proofs.Shortest.{begins_gives, begins_from, rest_few}
+use Rattle.pipe_graph.proofs.Tests.{and_parts, and_both, same_tests}
 use Rattle.pipe_topo.specs.Walk.{far, away_of, IsDistances}
 use Rattle.pipe_route.specs.Firsts.{nearer_of, IsNearest, IsLeast, is_first}
+use Rattle.pipe_base.specs.Limits.{most_nodes}
 
 -- no links yet
 pub least_start : (g : Graph) (by : ℕ → Bool) (away : List ℕ) (n : ℕ) → IsLeast g by away n [] far
@@ -52,7 +53,7 @@ least_more g by away n nearest links i l is i_lt item lt begins = pick (by l) re
         kept le = omega arith
 
 -- by the distances to a receiver, a link out of the node is to the nearest exactly where it begins a shortest path
-module _ (g : Graph) (by : ℕ → Bool) (n dst nearest : ℕ) (away : List ℕ) (graph : IsGraph g) (few : g.nodes ≤ 192) (right : IsDistances g by dst away)
+module _ (g : Graph) (by : ℕ → Bool) (n dst nearest : ℕ) (away : List ℕ) (graph : IsGraph g) (few : g.nodes ≤ most_nodes) (right : IsDistances g by dst away)
     (near : IsLeast g by away n (outs_of g n) nearest) where
   -- no link of the set out of the node leads nearer
   none_nearer : (l : ℕ) → LeavesBy g by n l → nearest ≤ away_of away (head_of g l)

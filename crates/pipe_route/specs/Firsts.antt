@@ -1,7 +1,7 @@
 -- The links out of a node that lead to the nodes nearest to a receiver, by a table of distances.
 use Rattle.std.specs.Prelude.{◌≡◌, ◌⊎◌, ℕ, ◌<◌, ◌≤◌, ◌==◌, nat_lt, ◌&&◌, min, if◌then◌else◌, Bool, true, List, length, All}
 use Rattle.pipe_base.specs.declared.name.LinkId.{LinkId}
-use Rattle.pipe_base.specs.Graph.{Graph, tail_of, head_of}
+use Rattle.pipe_graph.specs.Graph.{Graph, tail_of, head_of}
 use Rattle.pipe_topo.specs.Walk.{far, away_of}
 
 -- the lesser of a distance and that of a link's head, where the link is of the set
@@ -16,7 +16,8 @@ pub record IsNearest (graph : Graph) (by : ℕ → Bool) (away : List ℕ) (node
   pub away_is : away_of away (head_of graph link) ≡ nearest
 
 -- the least distance of the heads of these links, as far as they are of the set, or far
-pub record IsLeast (graph : Graph) (by : ℕ → Bool) (away : List ℕ) (node : ℕ) (links : List LinkId) (nearest : ℕ) : Type 0 where
+pub record IsLeast (graph : Graph) (by : ℕ
+    → Bool) (away : List ℕ) (node : ℕ) (links : List LinkId) (nearest : ℕ) : Type 0 where
   pub least : All (λ l. by l.0 ≡ true → nearest ≤ away_of away (head_of graph l.0)) links
   pub reached : (nearest ≡ far) ⊎ ((link : ℕ) × IsNearest graph by away node nearest link)
 

@@ -1,8 +1,8 @@
 -- What the routes of a node are seen as.
 use Rattle.std.specs.Prelude.{ℕ, Bool, List}
 use Rattle.pipe_base.specs.declared.name.LinkId.{LinkId}
-use Rattle.pipe_base.specs.Graph.{Graph}
-use Rattle.pipe_base.specs.ShortestRoute.{firsts_by_host}
+use Rattle.pipe_graph.specs.Graph.{Graph}
+use Rattle.pipe_graph.specs.ShortestRoute.{firsts_by_host}
 
 -- the node, and for each host the links that a packet to it may take
 pub record Routing : Type 0 where

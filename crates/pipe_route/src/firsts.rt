@@ -1,7 +1,7 @@
 // The links out of a node that begin a shortest path to a receiver.
 ghost use Rattle.std.specs.Prelude.{◌≡◌, ℕ, ◌<◌, ◌≤◌, length, filter, IfOk};
-ghost use Rattle.pipe_base.specs.Graph.{outs_of};
-ghost use Rattle.pipe_base.specs.ShortestRoute.{firsts_by_host, firsts_of};
+ghost use Rattle.pipe_graph.specs.Graph.{outs_of};
+ghost use Rattle.pipe_graph.specs.ShortestRoute.{firsts_by_host, firsts_of};
 ghost use Rattle.pipe_topo.specs.Sets.{has, lacks};
 ghost use Rattle.pipe_route.specs.Firsts.{IsLeast, is_first, nearer_of};
 

@@ -1,6 +1,6 @@
 // The routes of one node.
 ghost use Rattle.std.specs.Prelude.{◌≡◌, ◌<◌, length, IfOk, OnErr, OnOk};
-ghost use Rattle.pipe_base.specs.ShortestRoute.{in_turn, picked};
+ghost use Rattle.pipe_base.specs.Ways.{in_turn, picked};
 ghost use Rattle.pipe_topo.specs.Sets.{lacks};
 ghost use Rattle.pipe_route.specs.Routing.{routing_by};
 
@@ -72,15 +72,17 @@ impl Routes {
 
 impl Router for Routes {
     ghost use Rattle.std.specs.Prelude.{◌≡◌, ℕ, Bool};
-    ghost use Rattle.pipe_base.specs.Graph.{Graph};
-    ghost use Rattle.pipe_base.specs.ShortestRoute.{picked, route_by};
+    ghost use Rattle.pipe_graph.specs.Graph.{Graph};
+    ghost use Rattle.pipe_graph.specs.ShortestRoute.{route_by};
+    ghost use Rattle.pipe_base.specs.Ways.{picked};
     ghost use Rattle.pipe_route.specs.Routing.{routing_by};
 
     ghost links = { λ r. r.links };
 
     fn pick(&self, src: HostId, dst: HostId) -> Option<LinkId>
         ensures value { result ≡ picked self.now.links src.0 dst.0 }
-        ensures route { (graph : Graph) (by : ℕ → Bool) → self.now ≡ routing_by graph by self.now.node → result ≡ route_by graph by self.now.node src.0 dst.0 }
+        ensures route { (graph : Graph) (by : ℕ → Bool) → self.now ≡ routing_by graph by self.now.node
+            → result ≡ route_by graph by self.now.node src.0 dst.0 }
     {
         picked(&self.links, src, dst)
     }

@@ -9,10 +9,10 @@ use Rattle.pipe_base.specs.declared.name.Ts.{Ts}
 use Rattle.pipe_base.specs.declared.packet.Packet.{Packet}
 use Rattle.pipe_base.specs.declared.step.Step.{Step}
 use Rattle.pipe_base.specs.declared.step.Outcome.TheVariants.{Ok}
-use Rattle.pipe_base.specs.Graph.{Graph, ins_of, is_half}
+use Rattle.pipe_graph.specs.Graph.{Graph, ins_of, is_half}
 use Rattle.pipe_base.specs.Moment.{Received}
 use Rattle.pipe_base.specs.Packets.{forwarded}
-use Rattle.pipe_base.specs.ShortestRoute.{route}
+use Rattle.pipe_graph.specs.ShortestRoute.{route}
 use Rattle.pipe_base.specs.Step.{quiet_step}
 use Rattle.pipe_base.specs.Ways.{with_beacons, with_ways}
 use Rattle.pipe_barrier.specs.declared.registers.Barriers.{Barriers}
@@ -36,21 +36,10 @@ pub record StandsWith (graph : Graph) (node : ℕ) (own : List Record) (r : Reco
   pub half : is_half graph node ≡ true
   pub links_are : links.StandsWith graph node own r k.links
 
--- a packet was taken from a link
-abbrev pub taken : LinkId → Packet → ℕ → Bool → Step → Record
-taken link p place keep step = record { event = Take link place keep; took = Link link p; step = step }
-
--- a node's clock read this
-abbrev pub ticked : NodeId → Ts → Step → Record
-ticked node now step = record { event = Tick node now; took = Nothing; step = step }
-
--- a node was told this by a control message
-abbrev pub told : NodeId → Control → ℕ → Bool → Step → Record
-told node control place keep step = record { event = ControlTake place keep; took = Message (record { to = Node node; control = control }); step = step }
-
 -- the step of a tick: links go down, the controller is told this, and each of the links out has a beacon with these barriers
 abbrev pub beat : List LinkId → Barriers → List (LinkId × Ts) → List Addressed → Step
-beat outs b downed told = with_beacons outs (record { be = b.be.0; commit = b.commit.0 }) (record (quiet_step Ok) { downed = downed; control = told })
+beat outs b downed told =
+    with_beacons outs (record { be = b.be.0; commit = b.commit.0 }) (record (quiet_step Ok) { downed = downed; control = told })
 
 -- the packets that a half owes for a packet that it received: a beacon goes no further
 abbrev pub passed_on : Barriers → Packet → List Packet
@@ -60,7 +49,7 @@ passed_on b p = if is_beacon p.kind then [] else forwarded (record { be = b.be.0
 pub record IsPassing (k : Half) (link : LinkId) (p : Packet) (step : Step) : Type 0 where
   pub barriers : Barriers
   pub barriers_are : (graph : Graph) (node : ℕ) (own : List Record) → links.Stands graph node own k.links
-      → AreBarriers (ins_of graph node) (Received link.0 p.be.0 p.commit.0 ∷ moments_of own) barriers
+      → AreBarriers (ins_of graph node) (Received link.0 p.be.0 p.commit.0 ∷ moments_of graph node own) barriers
   pub step_is : (graph : Graph) (node : ℕ) (own : List Record) → links.Stands graph node own k.links
       → step ≡ with_ways (route graph (known_drops own) node) (passed_on barriers p) (quiet_step Ok)
 

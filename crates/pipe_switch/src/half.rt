@@ -1,6 +1,6 @@
 // A half of a switch.
 ghost use Rattle.std.specs.Prelude.{◌≡◌, ◌∷◌, ◌<◌, [], ℕ, Bool, List, true, false, IfOk, OnErr, OnOk};
-ghost use Rattle.pipe_base.specs.Graph.{Graph, ins_of, is_half};
+ghost use Rattle.pipe_graph.specs.Graph.{Graph, ins_of, is_half};
 ghost use Rattle.pipe_base.specs.Moment.{has_link};
 ghost use Rattle.pipe_base.specs.Packets.{forwarded};
 ghost use Rattle.pipe_base.specs.Step.{quiet_step};
@@ -10,7 +10,8 @@ ghost use Rattle.pipe_model.specs.Acting.{ComesIn};
 ghost use Rattle.pipe_model.specs.Got.{is_beacon};
 ghost use Rattle.pipe_model.specs.Moments.{moments_of};
 ghost use Rattle.pipe_model.specs.Run.{IsNodeStep};
-ghost use Rattle.pipe_switch.specs.Half.{Does, IsPassing, Stands, StandsWith, Works, beat, taken, ticked, told};
+ghost use Rattle.pipe_switch.specs.Half.{Does, IsPassing, Stands, StandsWith, Works, beat};
+ghost use Rattle.pipe_model.specs.Records.{told, taken, ticked};
 
 use pipe_barrier::{Barriers, Registers};
 use pipe_base::{
@@ -18,7 +19,7 @@ use pipe_base::{
     Packet, PacketKind, PutRoom, Step, To, Ts,
 };
 use pipe_links::Links;
-use pipe_model::{Event, Record, Took};
+use pipe_model::{Event, Record, Took, is_beacon};
 use pipe_topo::Topology;
 use std::alloc::Global;
 
@@ -49,7 +50,8 @@ impl Half {
 
     pub fn node(&self) -> NodeId
         ensures value { result ≡ self.now.links.node }
-        ensures stands { (graph : Graph) (node : ℕ) (own : List ARecord) → Stands graph node own self.now → result.0 ≡ node }
+        ensures stands { (graph : Graph) (node : ℕ) (own : List ARecord) → Stands graph node own self.now
+            → result.0 ≡ node }
     {
         self.links.node()
     }
@@ -57,7 +59,7 @@ impl Half {
     /// The registers of the links into the half.
     pub fn registers(&self) -> &Registers
         ensures { (graph : Graph) (node : ℕ) (own : List ARecord) → Stands graph node own self.now
-            → registers.Stands (ins_of graph node) result.now (moments_of own) }
+            → registers.Stands (ins_of graph node) result.now (moments_of graph node own) }
     {
         self.links.registers()
     }
@@ -65,8 +67,10 @@ impl Half {
     /// Works out what the taking of a packet from a link into the half does. Nothing changes. A packet on a link that is
     /// not up is ignored; any other raises the registers, and goes on with the half's own barriers unless it is a beacon.
     pub fn work_take(&self, link: LinkId, packet: &Packet) -> Result<KeptStep, NoMemory>
-        ensures { IfOk result (λ step. (graph : Graph) (node : ℕ) (own : List ARecord) (place : ℕ) (keep : Bool) → Stands graph node own self.now
-            → has_link link.0 (ins_of graph node) ≡ true → Works graph node own (taken link packet.now place keep step) self.now) }
+        ensures { IfOk result (λ step. (graph : Graph) (node : ℕ) (own : List ARecord) (place : ℕ) (keep : Bool)
+            → Stands graph node own self.now
+            → has_link link.0 (ins_of graph node) ≡ true
+            → Works graph node own (taken link packet.now place keep step) self.now) }
     {
         if !self.links.is_up(link) {
             return Ok(KeptStep::quiet(Outcome::Ignored));
@@ -91,7 +95,8 @@ impl Half {
     /// barriers after that is put on each link out of the half that is not known as dropped. The controller is told of each
     /// in-link that is down then and not dropped, and how many dropped links the half knows.
     pub fn work_tick(&self, now: Ts) -> Result<KeptStep, NoMemory>
-        ensures { IfOk result (λ step. (graph : Graph) (node : NodeId) (own : List ARecord) → Stands graph node.0 own self.now
+        ensures { IfOk result (λ step. (graph : Graph) (node : NodeId) (own : List ARecord)
+            → Stands graph node.0 own self.now
             → Works graph node.0 own (ticked node now step) self.now) }
     {
         let downed = self.links.silent_marks(self.alloc, now)?;
@@ -133,7 +138,8 @@ impl Half {
         control: &Control,
     ) -> Result<KeptStep, NoMemory>
         requires node { self.old.links.node.0 < topology.now.nodes }
-        ensures ok { IfOk result (λ step. (node : NodeId) (own : List ARecord) (place : ℕ) (keep : Bool) → Stands topology.now node.0 own self.old
+        ensures ok { IfOk result (λ step. (node : NodeId) (own : List ARecord) (place : ℕ) (keep : Bool)
+            → Stands topology.now node.0 own self.old
             → Works topology.now node.0 own (told node control.now place keep step) self.new) }
         ensures err { OnErr result (self.new ≡ self.old) }
     {
@@ -148,7 +154,8 @@ impl Half {
 
     /// Takes over the record of a step that was worked out. Takes no memory.
     pub fn follow(&mut self, made: &Record)
-        ensures { (graph : Graph) (node : ℕ) (own : List ARecord) → StandsWith graph node own made.now self.old → ComesIn graph node made.now.event
+        ensures { (graph : Graph) (node : ℕ) (own : List ARecord) → StandsWith graph node own made.now self.old
+            → ComesIn graph node made.now.event
             → IsNodeStep graph node own made.now → Stands graph node (made.now ∷ own) self.new }
     {
         self.links.follow(made);
@@ -156,15 +163,18 @@ impl Half {
 
     /// Gives back what was made for a step that was worked out and is refused. Takes no memory.
     pub fn undo(&mut self)
-        ensures { (graph : Graph) (node : ℕ) (own : List ARecord) (made : ARecord) → StandsWith graph node own made self.old → Stands graph node own self.new }
+        ensures { (graph : Graph) (node : ℕ) (own : List ARecord) (made : ARecord)
+            → StandsWith graph node own made self.old → Stands graph node own self.new }
     {
         self.links.undo();
     }
 
     /// Takes a packet from a link into the half. The step is empty first, and after want of memory, which changes nothing.
     pub fn take(&mut self, link: LinkId, packet: Packet, step: &mut Step) -> Result<(), NoMemory>
-        ensures ok { OnOk result ((graph : Graph) (node : ℕ) (own : List ARecord) (place : ℕ) (keep : Bool) → Stands graph node own self.old
-            → has_link link.0 (ins_of graph node) ≡ true → Does graph node own (taken link packet place keep step.new) self.new) }
+        ensures ok { OnOk result ((graph : Graph) (node : ℕ) (own : List ARecord) (place : ℕ) (keep : Bool)
+            → Stands graph node own self.old
+            → has_link link.0 (ins_of graph node) ≡ true
+            → Does graph node own (taken link packet place keep step.new) self.new) }
         ensures err { OnErr result ((self.new ≡ self.old) × (step.new ≡ quiet_step Outcome.Ok)) }
     {
         *step = Step::new(self.alloc);
@@ -185,7 +195,8 @@ impl Half {
 
     /// The half's clock reads `now`. The step is empty first, and after want of memory, which changes nothing.
     pub fn tick(&mut self, now: Ts, step: &mut Step) -> Result<(), NoMemory>
-        ensures ok { OnOk result ((graph : Graph) (node : NodeId) (own : List ARecord) → Stands graph node.0 own self.old
+        ensures ok { OnOk result ((graph : Graph) (node : NodeId) (own : List ARecord)
+            → Stands graph node.0 own self.old
             → Does graph node.0 own (ticked node now step.new) self.new) }
         ensures err { OnErr result ((self.new ≡ self.old) × (step.new ≡ quiet_step Outcome.Ok)) }
     {
@@ -213,7 +224,8 @@ impl Half {
         step: &mut Step,
     ) -> Result<(), NoMemory>
         requires node { self.old.links.node.0 < topology.now.nodes }
-        ensures ok { OnOk result ((node : NodeId) (own : List ARecord) (place : ℕ) (keep : Bool) → Stands topology.now node.0 own self.old
+        ensures ok { OnOk result ((node : NodeId) (own : List ARecord) (place : ℕ) (keep : Bool)
+            → Stands topology.now node.0 own self.old
             → Does topology.now node.0 own (told node control place keep step.new) self.new) }
         ensures err { OnErr result ((self.new ≡ self.old) × (step.new ≡ quiet_step Outcome.Ok)) }
     {
@@ -256,10 +268,4 @@ fn forwarded(packet: &Packet, barriers: Barriers) -> Result<Packet, NoMemory>
     copy.be = barriers.be;
     copy.commit = barriers.commit;
     Ok(copy)
-}
-
-fn is_beacon(kind: PacketKind) -> bool
-    ensures { result ≡ is_beacon kind }
-{
-    matches!(kind, PacketKind::Beacon)
 }

@@ -30,14 +30,14 @@ pub fn print_body(out: &mut Vec<u8>, body: &[u8]) -> Result<(), NoMemory>
 /// Appends `log HOST SERVICE COUNT`. After want of memory a part of the line may stand there.
 pub fn print_log_head(
     out: &mut Vec<u8>,
-    host: &str,
+    host: &[u8],
     service: Service,
     count: usize,
 ) -> Result<(), NoMemory>
     ensures { OnOk result (out.new.items ≡ out.old.items ++ log_head host.now service count) }
 {
     out.extend_from_slice(b"log ")?;
-    out.extend_from_slice(host.as_bytes())?;
+    out.extend_from_slice(host)?;
     out.push(b' ')?;
     out.extend_from_slice(service_word(service))?;
     out.push(b' ')?;
@@ -47,12 +47,12 @@ pub fn print_log_head(
 }
 
 /// Appends `TS HOST BODY`, where HOST is the sender. After want of memory a part of the line may stand there.
-pub fn print_log_line(out: &mut Vec<u8>, ts: Ts, host: &str, body: &[u8]) -> Result<(), NoMemory>
+pub fn print_log_line(out: &mut Vec<u8>, ts: Ts, host: &[u8], body: &[u8]) -> Result<(), NoMemory>
     ensures { OnOk result (out.new.items ≡ out.old.items ++ log_line ts.0 host.now body.now) }
 {
     out.extend_from_slice(Buffer::new().format(ts.0).as_bytes())?;
     out.push(b' ')?;
-    out.extend_from_slice(host.as_bytes())?;
+    out.extend_from_slice(host)?;
     out.push(b' ')?;
     print_body(out, body)?;
     out.push(b'\n')?;

@@ -35,7 +35,7 @@ planned_right : (division : Division) (described : Result Described PlanFault) â
 planned_right division (Err bad) right = tt
 planned_right division (Ok described) right =
     scheduled_right described (schedule_of (graph_of described.plan) described.names division.line (lines division.rest)) right
-    (schedule_happens (graph_of described.plan) described.names division.line (lines division.rest) (plan_is_graph described.plan right.0))
+    (schedule_happens (graph_of described.plan) described.names division.line (lines division.rest))
 
 divided_right : (division : Option Division) â†’ IfOk (divided division) HasNetwork
 divided_right None = tt

@@ -17,7 +17,7 @@ use Rattle.pipe_text_input.specs.declared.input.InputFault.TheVariants as fault
 
 -- a network with names, and what happens in it
 pub record Content : Type 0 where
-  -- of the hosts and then of the switches
+  -- of the nodes
   pub names : List (List ℕ)
   pub plan : Plan
   pub events : List Event

@@ -1,7 +1,7 @@
 -- The network of an input.
 use Rattle.std.specs.Prelude.{◌≡◌, All, None}
-use Rattle.pipe_base.specs.Graph.{IsGraph}
-use Rattle.pipe_base.specs.Reach.{JoinsAllHosts}
+use Rattle.pipe_graph.specs.Graph.{IsGraph}
+use Rattle.pipe_graph.specs.Reach.{JoinsAllHosts}
 use Rattle.pipe_topo.specs.Fault.{fault_of}
 use Rattle.pipe_topo.specs.Plan.{IsPlan, graph_of}
 use Rattle.pipe_model.specs.Event.{IsOfGraph}

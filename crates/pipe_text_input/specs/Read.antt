@@ -1,6 +1,6 @@
 -- An input as it was read.
 use Rattle.std.specs.Prelude.{◌≡◌, All, Result, Ok}
-use Rattle.pipe_base.specs.Reach.{JoinsAllHosts}
+use Rattle.pipe_graph.specs.Reach.{JoinsAllHosts}
 use Rattle.pipe_topo.specs.Plan.{IsPlan, graph_of}
 use Rattle.pipe_model.specs.Event.{IsOfGraph}
 use Rattle.pipe_text_input.specs.declared.input.Input.{Input}

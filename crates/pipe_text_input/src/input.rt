@@ -3,13 +3,12 @@
 use pipe_model::EventList;
 use pipe_text::LineKind;
 use pipe_text_plan::PlanFault;
-use pipe_topo::{Names, Plan, Topology};
+use pipe_topo::{NodeNames, Plan, Topology};
 
 /// A network and what happens in it.
 #[derive(Drop)]
 pub struct Input {
-    /// The hosts' names and then the switches'.
-    pub names: Names,
+    pub names: NodeNames,
     pub plan: Plan,
     pub topology: Topology,
     pub events: EventList,

@@ -1,20 +1,19 @@
 // The logs as text.
 ghost use Rattle.std.specs.Prelude.{◌≡◌, ◌++◌, ◌<◌, ℕ, List, length, reverse, IfOk, OnOk};
-ghost use Rattle.pipe_base.specs.Graph.{Graph};
+ghost use Rattle.pipe_graph.specs.Graph.{Graph};
 ghost use Rattle.pipe_model.specs.declared.record.Record.{Record};
-ghost use Rattle.pipe_text_log.specs.Collected.{entries, AreLogs, AreLogsOf};
+ghost use Rattle.pipe_model.specs.Collected.{entries, AreLogs, AreLogsOf};
 ghost use Rattle.pipe_text_log.specs.LogText.{service_text, host_text, hosts_text, log_text};
 
-use crate::collect::{Log, collect};
 use pipe_base::{Entry, List, NoMemory, Service};
-use pipe_model::Trace;
+use pipe_model::{Log, Trace, collect_logs};
 use pipe_text::{Text, print_log_head, print_log_line};
-use pipe_topo::{Names, Topology};
+use pipe_topo::{NodeNames, Topology};
 use std::alloc::Global;
 
 fn print_service(
     out: &mut Vec<u8>,
-    names: &Names,
+    names: &NodeNames,
     host: u16,
     service: Service,
     log: &[&Entry],
@@ -33,7 +32,12 @@ fn print_service(
     Ok(())
 }
 
-fn print_host(out: &mut Vec<u8>, names: &Names, host: u16, log: &Log<'_>) -> Result<(), NoMemory>
+fn print_host(
+    out: &mut Vec<u8>,
+    names: &NodeNames,
+    host: u16,
+    log: &Log<'_>,
+) -> Result<(), NoMemory>
     ensures { OnOk result ((graph : Graph) (past : List Record) → AreLogsOf graph past host log.now → out.new.items ≡ out.old.items ++ host_text names.now graph past host) }
 {
     print_service(out, names, host, Service::BestEffort, log.best.as_slice())?;
@@ -42,7 +46,7 @@ fn print_host(out: &mut Vec<u8>, names: &Names, host: u16, log: &Log<'_>) -> Res
 
 fn print_hosts(
     out: &mut Vec<u8>,
-    names: &Names,
+    names: &NodeNames,
     hosts: u16,
     all: &[Log<'_>],
 ) -> Result<(), NoMemory>
@@ -58,14 +62,14 @@ fn print_hosts(
 /// The logs of all hosts over a trace of the network, in one pass over the trace.
 pub fn print_logs(
     alloc: Global,
-    names: &Names,
+    names: &NodeNames,
     topology: &Topology,
     trace: &Trace,
 ) -> Result<Text, NoMemory>
     ensures { IfOk result (λ text. text ≡ log_text names.now topology.now (reverse trace.now)) }
 {
     let hosts = topology.hosts();
-    let all = collect(alloc, topology.ends(), hosts, trace)?;
+    let all = collect_logs(alloc, topology.ends(), hosts, trace)?;
     let mut out = Vec::new(alloc);
     print_hosts(&mut out, names, hosts, &all)?;
     Ok(List::from_vec(out))

@@ -1,11 +1,16 @@
 -- Lemmas on the numbers of names.
-use Rattle.std.proofs.Common.{◌≡◌, ℕ, zero, suc, ◌+◌, ◌<◌, ◌≤◌, Bool, true, false, not, ◌||◌, if◌then◌else◌, List, [], ◌∷◌, ◌++◌, length, take, get_or, map, None, Err, Ok, refl, ap, sym, subst, ◌∙◌, arith}
-use Rattle.std.specs.List.{list_any}
+use Rattle.std.proofs.Common.{◌≡◌, ℕ, zero, suc, ◌+◌, ◌<◌, ◌≤◌, ◌==◌, nat_lt, Bool, true, false, not, ◌||◌, if◌then◌else◌, List, [], ◌∷◌, ◌++◌, length, take, get_or, map, All, true≢false, None, Err, Ok, refl, ap, sym, subst, ◌∙◌, arith}
+use Rattle.std.specs.Char.{is_ascii_digit}
+use Rattle.std.specs.List.{list_any, list_all}
 use Rattle.std.specs.Str.{bytes_eq}
+use Rattle.std.proofs.lemmas.Bool.Decides.{nat_tests}
+use Rattle.std.proofs.lemmas.List.Elements.{All-nil, All-push}
 use Rattle.std.proofs.lemmas.List.{take_more, take_all, length_push}
 use Rattle.pipe_topo.specs.First.{first_below}
 use Rattle.pipe_topo.proofs.FirstLaws.{first_more, first_at}
-use Rattle.pipe_text_plan.specs.Name.{is_name}
+use Rattle.pipe_text.proofs.NumberLaws.{both}
+use Rattle.pipe_topo.specs.NodeNames.{has_dot}
+use Rattle.pipe_text_plan.specs.Name.{is_letter, is_name_byte, is_name}
 use Rattle.pipe_text_plan.specs.Numbering.{is_wrong, numbered, numbered_unless}
 use Rattle.pipe_text_plan.specs.declared.fault.PlanError.{PlanError}
 use Rattle.pipe_text_plan.specs.declared.fault.PlanError.TheVariants.{Plan}
@@ -19,14 +24,36 @@ map_at f [] n other default within = absurd (omega arith)
 map_at f (item ∷ items) zero other default within = refl
 map_at f (item ∷ items) (suc n) other default within = map_at f items n other default (omega arith)
 
+byte_dotless : (byte : ℕ) → is_name_byte byte ≡ true → (byte == 46) ≡ false
+byte_dotless byte is = pick (byte == 46) refl
+  where
+    pick : (t : Bool) → (byte == 46) ≡ t → t ≡ false
+    pick true dot = let here : byte ≡ 46 = grind (arith, nat_tests) in absurd (true≢false (sym is ∙ ap is_name_byte here))
+    pick false dot = refl
+
+bytes_dotless : (bytes : List ℕ) → list_all is_name_byte bytes ≡ true → has_dot bytes ≡ false
+bytes_dotless [] are = refl
+bytes_dotless (byte ∷ bytes) are =
+    let parts = both (is_name_byte byte) (list_all is_name_byte bytes) are in λ i. byte_dotless byte parts.0 i || bytes_dotless bytes parts.1 i
+
+name_dotless : (name : List ℕ) → is_name name ≡ true → has_dot name ≡ false
+name_dotless [] is = absurd cc
+name_dotless (first ∷ rest) is =
+    let letter = both (is_letter first) _ is in
+    let short = both (nat_lt (length rest) 16) _ letter.1 in
+    let bytes = both (list_all is_name_byte rest) _ short.1 in
+    let begins : is_name_byte first ≡ true = ap (λ (t : Bool). t || (is_ascii_digit first || ((first == 45) || (first == 95)))) letter.0 in
+    λ i. byte_dotless first begins i || bytes_dotless rest bytes.0 i
+
 -- these are the first so many names, and none of them is wrong
 pub record AreNumbered (all names : List (List ℕ)) (count : ℕ) : Type 0 where
   pub names_are : names ≡ take count all
   pub size : length names ≡ count
   pub right : first_below (is_wrong all) count ≡ None
+  pub dotless : All (λ name. has_dot name ≡ false) names
 
 pub no_names : (all : List (List ℕ)) → AreNumbered all [] 0
-no_names all = record { names_are = refl; size = refl; right = refl }
+no_names all = record { names_are = refl; size = refl; right = refl; dotless = All-nil (λ name. has_dot name ≡ false) }
 
 wrong_by : (all names : List (List ℕ)) (count : ℕ) (name : List ℕ) (valid was : Bool) → AreNumbered all names count → get_or all count [] ≡ name
     → is_name name ≡ valid → list_any (bytes_eq name) names ≡ was → is_wrong all count ≡ (not valid || was)
@@ -72,6 +99,7 @@ new_name all names longer count name new are within is good added fresh more =
       size = ap length last ∙ omega (arith, length_push names name, size);
       right = first_more (is_wrong all) count are.right
           (wrong_by all names count name true false are is good (not_yes (list_any (bytes_eq name) names) (sym added ∙ fresh)));
+      dotless = subst (All (λ n. has_dot n ≡ false)) (sym last) (All-push (λ n. has_dot n ≡ false) names name are.dotless (name_dotless name good));
     }
   where
     not_yes : (t : Bool) → not t ≡ true → t ≡ false

@@ -1,16 +1,21 @@
 -- Lemmas on stars.
-use Rattle.std.proofs.Common.{◌≡◌, ℕ, ◌+◌, ◌<◌, ◌≤◌, ◌^◌, Bool, true, false, not, if◌then◌else◌, List, [], ◌∷◌, ◌++◌, length, drop, map, None, Result, Ok, Err, refl, ap, sym, ◌∙◌, arith, codes}
+use Rattle.std.proofs.Common.{◌≡◌, ℕ, ◌+◌, ◌<◌, ◌≤◌, ◌^◌, Bool, true, false, not, if◌then◌else◌, List, [], ◌∷◌, ◌++◌, length, drop, map, All, ◌==◌, ◌||◌, None, Result, Ok, Err, refl, ap, sym, ◌∙◌, arith, codes}
 use Rattle.std.specs.List.{list_any, range_with_len}
 use Rattle.std.specs.Result.{IfErr}
 use Rattle.std.specs.Str.{bytes_eq}
-use Rattle.std.proofs.lemmas.Fmt.{decimal_injective}
-use Rattle.std.proofs.lemmas.List.FromFn.{map-range_with_len_more}
-use Rattle.std.proofs.lemmas.List.FromFn.{get_or-map-range_with_len, length-map-range_with_len}
+use Rattle.std.proofs.lemmas.Fmt.{decimal_injective, decimal_is_IsNumeral}
+use Rattle.std.proofs.lemmas.Bool.Decides.{nat_tests}
+use Rattle.std.proofs.lemmas.List.Elements.{All-push}
+use Rattle.std.proofs.lemmas.Str.Parse.{digit_from_value}
+use Rattle.std.specs.Fmt.{decimal}
+use Rattle.std.specs.Str.Parse.{AllDigits}
+use Rattle.std.proofs.lemmas.List.FromFn.{map-range_with_len_more, get_or-map-range_with_len, length-map-range_with_len}
 use Rattle.std.proofs.lemmas.List.Folds.{list_any_none}
 use Rattle.std.proofs.lemmas.Slice.Eq.{bytes_eq-Decides}
 use Rattle.pipe_base.specs.declared.name.Ts.{Ts}
 use Rattle.pipe_topo.specs.declared.plan.Plan.{Plan as Network}
 use Rattle.pipe_topo.specs.Fault.{fault_of}
+use Rattle.pipe_topo.specs.NodeNames.{has_dot, node_names}
 use Rattle.pipe_topo.specs.Star.{star_plan}
 use Rattle.pipe_topo.proofs.StarLaws.{star_no_fault}
 use Rattle.pipe_text_plan.specs.declared.fault.PlanError.{PlanError}
@@ -19,7 +24,7 @@ use Rattle.pipe_text_plan.specs.declared.fault.PlanFault.{PlanFault}
 use Rattle.pipe_text_plan.specs.declared.fault.PlanFault.TheVariants.{Star}
 use Rattle.pipe_text_plan.specs.declared.read.PlanInput.{PlanInput}
 use Rattle.pipe_text_plan.specs.Described.{built, built_unless}
-use Rattle.pipe_text_plan.specs.Star.{star_of, host_name}
+use Rattle.pipe_text_plan.specs.Star.{star_of, star_names, host_name}
 
 -- too few words, or too many
 pub star_short : (words : List (List ℕ)) → length words < 2 → star_of words ≡ None
@@ -85,13 +90,29 @@ switch_last names longer name n new so_far is added more =
 pub hosts_size : (names : List (List ℕ)) (n : ℕ) → names ≡ map host_name (range_with_len 0 n) → length names ≡ n
 hosts_size names n is = ap length is ∙ length-map-range_with_len host_name 0 n
 
+digits_dotless : (digits : List ℕ) → AllDigits 10 digits → has_dot digits ≡ false
+digits_dotless [] are = refl
+digits_dotless (digit ∷ digits) are =
+    let range = digit_from_value digit are.0 in
+    let other : (digit == 46) ≡ false = grind (arith, nat_tests, range.0, range.1) in
+    λ i. other i || digits_dotless digits are.1 i
+
+-- none of the names has a dot
+pub star_dotless : (n : ℕ) → n ≤ 64 → All (λ name. has_dot name ≡ false) (star_names n)
+star_dotless n few =
+    All-push (λ name. has_dot name ≡ false) (map host_name (range_with_len 0 n)) (codes "s0")
+    (λ k d below.
+    let within : k < n = omega (arith, below, length-map-range_with_len host_name 0 n) in
+    ap has_dot (get_or-map-range_with_len host_name 0 n k k d within (omega arith)) ∙ digits_dotless (decimal k) (decimal_is_IsNumeral k (omega (arith, within, few))).0.1)
+    refl
+
 -- a plan without a fault is refused for none
 none_refused : (result : Result PlanInput PlanError) (names : List (List ℕ)) (plan : Network) → fault_of plan ≡ None
     → IfErr result (λ error. (fault : PlanFault) → error ≡ Plan fault → built names plan ≡ Err fault)
     → IfErr result (λ error. (fault : PlanFault) → error ≡ Plan fault → ⊥)
 none_refused (Ok input) names plan none told = tt
 none_refused (Err error) names plan none told = λ fault is.
-    let fine : built names plan ≡ Ok (record { names = names; plan = plan }) = ap (built_unless names plan) none in
+    let fine : built names plan ≡ Ok (record { names = node_names plan.hosts names; plan = plan }) = ap (built_unless names plan) none in
     let refused : built names plan ≡ Err fault = told fault is in
     cc
 

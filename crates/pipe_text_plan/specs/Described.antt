@@ -10,6 +10,7 @@ use Rattle.pipe_topo.specs.declared.fault.What.TheVariants as what
 use Rattle.pipe_topo.specs.declared.plan.CableEnd.{CableEnd}
 use Rattle.pipe_topo.specs.declared.plan.Plan.{Plan}
 use Rattle.pipe_topo.specs.Fault.{fault_of}
+use Rattle.pipe_topo.specs.NodeNames.{node_names}
 use Rattle.pipe_topo.specs.Star.{star_plan}
 use Rattle.pipe_text_plan.specs.declared.fault.KeyName.TheVariants as key
 use Rattle.pipe_text_plan.specs.declared.fault.PlanFault.{PlanFault}
@@ -21,7 +22,7 @@ use Rattle.pipe_text_plan.specs.Division.{Division}
 use Rattle.pipe_text_plan.specs.Star as line
 use Rattle.pipe_text_plan.specs.Switch.{switches_of}
 
--- a plan, and the names of its hosts and then of its switches
+-- a plan, and the names of its nodes in their order
 pub record Described : Type 0 where
   pub names : List (List ℕ)
   pub plan : Plan
@@ -33,10 +34,10 @@ pub record Document : Type 0 where
   pub cables : List (List ℕ)
   pub patience : ℕ
 
--- The plan has to be one of a topology.
+-- The plan has to be one of a topology. The names are those of its hosts and then of its switches.
 abbrev pub built_unless : List (List ℕ) → Plan → Option TopoFault → Result Described PlanFault
 built_unless names plan (Some fault) = Err (Topo fault)
-built_unless names plan None = Ok (record { names = names; plan = plan })
+built_unless names plan None = Ok (record { names = node_names plan.hosts names; plan = plan })
 
 -- a plan with its names, or its first fault
 abbrev pub built : List (List ℕ) → Plan → Result Described PlanFault

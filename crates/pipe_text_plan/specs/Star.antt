@@ -1,7 +1,7 @@
 -- The line of a star.
 use Rattle.std.specs.Prelude.{ℕ, ◌==◌, ◌||◌, if◌then◌else◌, List, [], ◌∷◌, ◌++◌, map, codes, decimal, Option, None, Some}
 use Rattle.std.specs.List.{range_with_len}
-use Rattle.pipe_base.specs.Limits.{most_patience}
+use Rattle.pipe_base.specs.Limits.{most_patience, most_hosts}
 use Rattle.pipe_text.specs.Number.{number_of}
 
 -- a number of hosts and a patience, neither of them 0
@@ -11,8 +11,8 @@ star_with _ _ = None
 
 -- `star N` or `star N P`: the hosts and the patience
 abbrev pub star_of : List (List ℕ) → Option (ℕ × ℕ)
-star_of (star ∷ hosts ∷ []) = star_with (number_of 64 hosts) (Some 1000)
-star_of (star ∷ hosts ∷ patience ∷ []) = star_with (number_of 64 hosts) (number_of most_patience patience)
+star_of (star ∷ hosts ∷ []) = star_with (number_of most_hosts hosts) (Some 1000)
+star_of (star ∷ hosts ∷ patience ∷ []) = star_with (number_of most_hosts hosts) (number_of most_patience patience)
 star_of _ = None
 
 -- `h0`, `h1` and so on

@@ -1,5 +1,6 @@
 // The numbers of names.
-ghost use Rattle.std.specs.Prelude.{◌≡◌, ◌≤◌, ◌<◌, ◌+◌, length, map, IfOk, IfErr, Ok, Err};
+ghost use Rattle.std.specs.Prelude.{◌≡◌, ◌≤◌, ◌<◌, ◌+◌, false, length, map, All, IfOk, IfErr, Ok, Err};
+ghost use Rattle.pipe_topo.specs.NodeNames.{has_dot};
 ghost use Rattle.pipe_text_plan.specs.declared.fault.PlanFault.{PlanFault as Fault};
 ghost use Rattle.pipe_text_plan.specs.Described.{all_names};
 ghost use Rattle.pipe_text_plan.specs.Numbering.{numbered};
@@ -29,6 +30,7 @@ pub fn all_names<'a>(
 pub fn numbered(alloc: Global, all: &[&str]) -> Result<Names, PlanError>
     requires { length all.now < 65535 }
     ensures ok { IfOk result (λ names. numbered (map (λ name. name.now) all.now) ≡ Ok names) }
+    ensures dotless { IfOk result (All (λ name. has_dot name ≡ false)) }
     ensures fault { IfErr result (λ error. (fault : Fault) → error ≡ PlanError.Plan fault → numbered (map (λ name. name.now) all.now) ≡ Err fault) }
 {
     let mut names = Names::new(alloc);

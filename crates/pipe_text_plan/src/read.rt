@@ -1,7 +1,8 @@
 // A topology part as names, plan and topology, or its first fault.
-ghost use Rattle.std.specs.Prelude.{◌≡◌, ◌≤◌, ◌<◌, ◌^◌, ◌+◌, true, length, map, IfOk, IfErr, IfSome, Ok, Err};
+ghost use Rattle.std.specs.Prelude.{◌≡◌, ◌≤◌, ◌<◌, ◌^◌, ◌+◌, true, false, length, map, All, IfOk, IfErr, IfSome, Ok, Err};
 ghost use Rattle.toml.specs.View.{table_view};
 ghost use Rattle.pipe_text.specs.Words.{words_of};
+ghost use Rattle.pipe_topo.specs.NodeNames.{has_dot};
 ghost use Rattle.pipe_topo.specs.Plan.{HasEnds};
 ghost use Rattle.pipe_text_plan.specs.declared.fault.PlanFault.{PlanFault as Fault};
 ghost use Rattle.pipe_text_plan.specs.Described.{built, crowd, crowded, described, described_by, IsCountable, star_described, toml_described};
@@ -19,7 +20,7 @@ use crate::star::{star_names, star_of};
 use crate::switch::switches_of;
 use pipe_base::{List, NoMemory, Ts};
 use pipe_text::words_of;
-use pipe_topo::{LevelList, Names, Plan, TopoFault, Topology, What};
+use pipe_topo::{LevelList, Names, NodeNames, Plan, TopoFault, Topology, What};
 use std::alloc::Global;
 use toml::Table;
 
@@ -32,8 +33,8 @@ const COUNT_LIMIT: usize = 4294967295;
 /// A topology as it was read.
 #[derive(Drop)]
 pub struct PlanInput {
-    /// The hosts' names and then the switches'.
-    pub names: Names,
+    /// The names of the nodes.
+    pub names: NodeNames,
     pub plan: Plan,
     pub topology: Topology,
 }
@@ -160,7 +161,9 @@ fn levels_of(alloc: Global, switches: &[(&str, u8)]) -> Result<LevelList, NoMemo
     Ok(levels)
 }
 
+// The plan's hosts have the first of the names, and its switches the others.
 fn build(alloc: Global, names: Names, plan: Plan) -> Result<PlanInput, PlanError>
+    requires dotless { All (λ name. has_dot name ≡ false) names }
     requires ends { HasEnds plan.hosts (length plan.levels) plan.cables }
     requires countable_levels { length plan.levels < 2 ^ 32 }
     requires countable_cables { length plan.cables < 2 ^ 32 }
@@ -169,7 +172,7 @@ fn build(alloc: Global, names: Names, plan: Plan) -> Result<PlanInput, PlanError
 {
     match Topology::build(alloc, &plan) {
         Ok(topology) => Ok(PlanInput {
-            names,
+            names: NodeNames::new(alloc, &names, plan.hosts)?,
             plan,
             topology,
         }),

@@ -1,6 +1,8 @@
 // The line of a star.
-ghost use Rattle.std.specs.Prelude.{◌≡◌, ◌≤◌, map, IfOk, IfSome};
+ghost use Rattle.std.specs.Prelude.{◌≡◌, ◌≤◌, false, map, All, IfOk, IfSome};
+ghost use Rattle.pipe_topo.specs.NodeNames.{has_dot};
 ghost use Rattle.pipe_text_plan.specs.Star.{star_with, star_of, star_names};
+ghost use Rattle.pipe_base.specs.Limits.{most_hosts};
 
 use crate::patience::{PATIENCE, PATIENCE_LIMIT};
 use pipe_base::NoMemory;
@@ -11,7 +13,7 @@ use std::alloc::Global;
 // The number of hosts and the patience.
 pub fn star_of(words: &[&[u8]]) -> Option<(u16, u64)>
     ensures value { result ≡ star_of (map (λ word. word.now) words.now) }
-    ensures few { IfSome result (λ star. (1 ≤ star.0) × (star.0 ≤ 64)) }
+    ensures few { IfSome result (λ star. (1 ≤ star.0) × (star.0 ≤ most_hosts)) }
 {
     match words {
         [_, hosts] => star_with(read_number(hosts, 64), Some(PATIENCE)),
@@ -24,9 +26,9 @@ pub fn star_of(words: &[&[u8]]) -> Option<(u16, u64)>
 }
 
 fn star_with(hosts: Option<u64>, patience: Option<u64>) -> Option<(u16, u64)>
-    requires { IfSome hosts (λ n. n ≤ 64) }
+    requires { IfSome hosts (λ n. n ≤ most_hosts) }
     ensures value { result ≡ star_with hosts patience }
-    ensures few { IfSome result (λ star. (1 ≤ star.0) × (star.0 ≤ 64)) }
+    ensures few { IfSome result (λ star. (1 ≤ star.0) × (star.0 ≤ most_hosts)) }
 {
     let (Some(hosts), Some(patience)) = (hosts, patience) else {
         return None;
@@ -39,8 +41,9 @@ fn star_with(hosts: Option<u64>, patience: Option<u64>) -> Option<(u16, u64)>
 
 // The hosts' names and then the switch's.
 pub fn star_names(alloc: Global, hosts: u16) -> Result<Names, NoMemory>
-    requires { hosts ≤ 64 }
-    ensures { IfOk result (λ names. names ≡ star_names hosts) }
+    requires { hosts ≤ most_hosts }
+    ensures names { IfOk result (λ names. names ≡ star_names hosts) }
+    ensures dotless { IfOk result (All (λ name. has_dot name ≡ false)) }
 {
     let mut names = Names::new(alloc);
     for host in 0..hosts {

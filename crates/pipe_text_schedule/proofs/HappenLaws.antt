@@ -1,14 +1,13 @@
 -- Each event of a schedule can happen in the network.
 use Rattle.std.proofs.Common.{◌≡◌, ◌≢◌, ℕ, ◌+◌, ◌-◌, ◌*◌, ◌<◌, ◌≤◌, ◌==◌, nat_lt, Bool, true, false, ◌||◌, if◌then◌else◌, List, [], ◌∷◌, ◌++◌, length, drop, take, All, AllPairs, Option, Some, None, IfSome, Result, Ok, Err, refl, arith, position, bytes_eq, codes, length-append}
-use Rattle.std.specs.Option.{option_or}
 use Rattle.std.specs.Result.{IfOk}
 use Rattle.std.proofs.lemmas.Bool.Decides.{nat_tests}
 use Rattle.std.proofs.lemmas.List.Elements.{All-nil, All-cons, All-push}
 use Rattle.std.proofs.lemmas.List.Quantifiers.{all_pairs_push}
 use Rattle.pipe_base.specs.declared.name.HostId.{HostId}
 use Rattle.pipe_base.specs.declared.message.Service.{Service}
-use Rattle.pipe_base.specs.Graph.{Graph, IsGraph}
-use Rattle.pipe_base.specs.Limits.{last_stamp, most_receivers}
+use Rattle.pipe_graph.specs.Graph.{Graph}
+use Rattle.pipe_base.specs.Limits.{most_receivers}
 use Rattle.pipe_model.specs.declared.event.Event.{Event}
 use Rattle.pipe_model.specs.Event.{AreReceivers, IsOfGraph}
 use Rattle.pipe_text.specs.declared.kind.LineKind.{LineKind}
@@ -21,7 +20,7 @@ use Rattle.pipe_text.proofs.NumberLaws.{number_within}
 use Rattle.pipe_text_schedule.specs.Control.{control_line, control_lose_from, control_lose_line, control_take_from, control_take_line, decide_line}
 use Rattle.pipe_text_schedule.specs.Failure.{crash_from, crash_line, cut_from, cut_line}
 use Rattle.pipe_text_schedule.specs.Line.{failure_event, line_event}
-use Rattle.pipe_text_schedule.specs.Named.{below, name_in, host_in, half_of, half_at, half_split, half_in, node_in, link_in}
+use Rattle.pipe_text_schedule.specs.Named.{below, host_in, node_in, link_in}
 use Rattle.pipe_text_schedule.specs.Receivers.{is_named, receiver_from, receiver_split, receiver_in, if_read, receivers_in}
 use Rattle.pipe_text_schedule.specs.Schedule.{event_onto, schedule_of}
 use Rattle.pipe_text_schedule.specs.Send.{service_of, send_from, if_few, send_line}
@@ -38,40 +37,26 @@ below_bound bound (Some n) = pick (nat_lt n bound) refl
     pick true is = grind (arith, nat_tests)
     pick false is = tt
 
-half_known : (graph : Graph) (place half : Option ℕ) → IfSome (half_at graph place half) (λ n. n < graph.nodes)
-half_known graph None half = tt
-half_known graph (Some n) None = tt
-half_known graph (Some n) (Some half) = pick (nat_lt n graph.hosts)
-  where
-    pick : (t : Bool) → IfSome (if t then None else below graph.nodes (Some (graph.hosts + 2 * (n - graph.hosts) + half))) (λ n. n < graph.nodes)
-    pick true = tt
-    pick false = below_bound graph.nodes (Some (graph.hosts + 2 * (n - graph.hosts) + half))
+host_known : (graph : Graph) (names : List (List ℕ)) (word : List ℕ) → IfSome (host_in graph names word) (λ n. n < graph.hosts)
+host_known graph names word = below_bound graph.hosts (position (bytes_eq word) names)
 
-split_known : (graph : Graph) (names : List (List ℕ)) (word : List ℕ) (dot : Option ℕ) → IfSome (half_split graph names word dot) (λ n. n < graph.nodes)
-split_known graph names word None = tt
-split_known graph names word (Some at) = half_known graph (name_in names (take at word)) (half_of (drop (at + 1) word))
-
-node_known : (graph : Graph) (names : List (List ℕ)) (word : List ℕ) → IsGraph graph → IfSome (node_in graph names word) (λ n. n < graph.nodes)
-node_known graph names word is = pick (host_in graph names word) (below_bound graph.hosts (name_in names word))
-  where
-    pick : (host : Option ℕ) → IfSome host (λ h. h < graph.hosts) → IfSome (option_or host (half_in graph names word)) (λ n. n < graph.nodes)
-    pick None known = split_known graph names word (position (λ (byte : ℕ). byte == 46) word)
-    pick (Some host) known = let hosts_in = is.hosts_in in omega arith
+node_known : (graph : Graph) (names : List (List ℕ)) (word : List ℕ) → IfSome (node_in graph names word) (λ n. n < graph.nodes)
+node_known graph names word = below_bound graph.nodes (position (bytes_eq word) names)
 
 -- ticks, takes and losses
 
-tick_happens : (graph : Graph) (node now : Option ℕ) → IfSome node (λ n. n < graph.nodes) → IfSome now (λ n. n ≤ last_stamp)
+tick_happens : (graph : Graph) (node now : Option ℕ) → IfSome node (λ n. n < graph.nodes) → IfSome now (λ n. n ≤ graph.top)
     → IfOk (tick_from node now) (IsOfGraph graph)
 tick_happens graph None now known reading = tt
 tick_happens graph (Some node) None known reading = tt
 tick_happens graph (Some node) (Some now) known reading = (known, reading)
 
-tick_line_happens : (graph : Graph) (names words : List (List ℕ)) → IsGraph graph → IfOk (tick_line graph names words) (IsOfGraph graph)
-tick_line_happens graph names [] is = tt
-tick_line_happens graph names (node ∷ []) is = tt
-tick_line_happens graph names (node ∷ now ∷ []) is =
-    tick_happens graph (node_in graph names node) (reading_of now) (node_known graph names node is) (number_within last_stamp now)
-tick_line_happens graph names (node ∷ now ∷ other ∷ words) is = tt
+tick_line_happens : (graph : Graph) (names words : List (List ℕ)) → IfOk (tick_line graph names words) (IsOfGraph graph)
+tick_line_happens graph names [] = tt
+tick_line_happens graph names (node ∷ []) = tt
+tick_line_happens graph names (node ∷ now ∷ []) =
+    tick_happens graph (node_in graph names node) (reading_of graph now) (node_known graph names node) (number_within graph.top now)
+tick_line_happens graph names (node ∷ now ∷ other ∷ words) = tt
 
 take_happens : (graph : Graph) (link place : Option ℕ) (keep : Option Bool) → IfSome link (λ n. n < length graph.links)
     → IfOk (take_from link place keep) (IsOfGraph graph)
@@ -142,10 +127,10 @@ crash_happens : (graph : Graph) (node : Option ℕ) → IfSome node (λ n. n < g
 crash_happens graph None known = tt
 crash_happens graph (Some node) known = known
 
-crash_line_happens : (graph : Graph) (names words : List (List ℕ)) → IsGraph graph → IfOk (crash_line graph names words) (IsOfGraph graph)
-crash_line_happens graph names [] is = tt
-crash_line_happens graph names (node ∷ []) is = crash_happens graph (node_in graph names node) (node_known graph names node is)
-crash_line_happens graph names (node ∷ other ∷ words) is = tt
+crash_line_happens : (graph : Graph) (names words : List (List ℕ)) → IfOk (crash_line graph names words) (IsOfGraph graph)
+crash_line_happens graph names [] = tt
+crash_line_happens graph names (node ∷ []) = crash_happens graph (node_in graph names node) (node_known graph names node)
+crash_line_happens graph names (node ∷ other ∷ words) = tt
 
 cut_happens : (graph : Graph) (link : Option ℕ) → IfSome link (λ n. n < length graph.links) → IfOk (cut_from link) (IsOfGraph graph)
 cut_happens graph None known = tt
@@ -156,12 +141,11 @@ cut_line_happens graph [] = tt
 cut_line_happens graph (link ∷ []) = cut_happens graph (link_in graph link) (link_known graph link)
 cut_line_happens graph (link ∷ other ∷ words) = tt
 
-failure_happens : (graph : Graph) (names : List (List ℕ)) (verb : List ℕ) (words : List (List ℕ)) → IsGraph graph
-    → IfOk (failure_event graph names verb words) (IsOfGraph graph)
-failure_happens graph names verb words is = pick (bytes_eq verb (codes "crash")) (bytes_eq verb (codes "cut"))
+failure_happens : (graph : Graph) (names : List (List ℕ)) (verb : List ℕ) (words : List (List ℕ)) → IfOk (failure_event graph names verb words) (IsOfGraph graph)
+failure_happens graph names verb words = pick (bytes_eq verb (codes "crash")) (bytes_eq verb (codes "cut"))
   where
     pick : (crash cut : Bool) → IfOk (if crash then crash_line graph names words else if cut then cut_line graph words else Err kind.Verb) (IsOfGraph graph)
-    pick true cut = crash_line_happens graph names words is
+    pick true cut = crash_line_happens graph names words
     pick false true = cut_line_happens graph words
     pick false false = tt
 
@@ -195,7 +179,7 @@ split_new : (graph : Graph) (names : List (List ℕ)) (before : List (HostId × 
     → IfOk (receiver_split graph names before word sign) (IsNew graph before)
 split_new graph names before word None = tt
 split_new graph names before word (Some at) =
-    receiver_new graph before (host_in graph names (take at word)) (body_of (drop (at + 1) word)) (below_bound graph.hosts (name_in names (take at word)))
+    receiver_new graph before (host_in graph names (take at word)) (body_of (drop (at + 1) word)) (host_known graph names (take at word))
 
 -- so many receivers, all different and all hosts
 abbrev AreHosts : Graph → ℕ → List (HostId × List ℕ) → Type 0
@@ -224,7 +208,7 @@ receivers_right graph names count more before (word ∷ words) sum are =
 -- sends
 
 send_happens : (graph : Graph) (count : ℕ) (host : Option ℕ) (service : Option Service) (now : Option ℕ) (dests : Result (List (HostId × List ℕ)) LineKind)
-    → 0 < count → count ≤ most_receivers → IfSome host (λ h. h < graph.hosts) → IfSome now (λ n. n ≤ last_stamp) → IfOk dests (AreHosts graph count) → IfOk (send_from host service now dests) (IsOfGraph graph)
+    → 0 < count → count ≤ most_receivers → IfSome host (λ h. h < graph.hosts) → IfSome now (λ n. n ≤ graph.top) → IfOk dests (AreHosts graph count) → IfOk (send_from host service now dests) (IsOfGraph graph)
 send_happens graph count None service now dests some few known reading are = tt
 send_happens graph count (Some host) None now dests some few known reading are = tt
 send_happens graph count (Some host) (Some service) None dests some few known reading are = tt
@@ -248,17 +232,17 @@ send_line_happens graph names [] = tt
 send_line_happens graph names (host ∷ []) = tt
 send_line_happens graph names (host ∷ service ∷ []) = tt
 send_line_happens graph names (host ∷ service ∷ now ∷ receivers) =
-    few_happen graph (length receivers) (send_from (host_in graph names host) (service_of service) (reading_of now) (receivers_in graph names [] receivers))
+    few_happen graph (length receivers) (send_from (host_in graph names host) (service_of service) (reading_of graph now) (receivers_in graph names [] receivers))
     (λ some few.
-    send_happens graph (length receivers) (host_in graph names host) (service_of service) (reading_of now) (receivers_in graph names [] receivers) some few
-    (below_bound graph.hosts (name_in names host)) (number_within last_stamp now)
+    send_happens graph (length receivers) (host_in graph names host) (service_of service) (reading_of graph now) (receivers_in graph names [] receivers) some few
+    (host_known graph names host) (number_within graph.top now)
     (receivers_right graph names 0 (length receivers) [] receivers (omega arith) (refl, All-nil (λ (d : HostId × List ℕ). d.0.0 < graph.hosts), λ i j d _ below. absurd (omega (arith, below)))))
 
 -- lines and schedules
 
-line_happens : (graph : Graph) (names words : List (List ℕ)) → IsGraph graph → IfOk (line_event graph names words) (IsOfGraph graph)
-line_happens graph names [] is = tt
-line_happens graph names (verb ∷ words) is =
+line_happens : (graph : Graph) (names words : List (List ℕ)) → IfOk (line_event graph names words) (IsOfGraph graph)
+line_happens graph names [] = tt
+line_happens graph names (verb ∷ words) =
     pick (bytes_eq verb (codes "send")) (bytes_eq verb (codes "tick")) (bytes_eq verb (codes "take")) (bytes_eq verb (codes "lose"))
     (bytes_eq verb (codes "control")) (bytes_eq verb (codes "decide"))
   where
@@ -267,12 +251,12 @@ line_happens graph names (verb ∷ words) is =
         else if lose then lose_line graph words else if control then control_line words else if decide then decide_line words
         else failure_event graph names verb words) (IsOfGraph graph)
     pick true tick take lose control decide = send_line_happens graph names words
-    pick false true take lose control decide = tick_line_happens graph names words is
+    pick false true take lose control decide = tick_line_happens graph names words
     pick false false true lose control decide = take_line_happens graph words
     pick false false false true control decide = lose_line_happens graph words
     pick false false false false true decide = control_line_happens graph words
     pick false false false false false true = decide_line_happens graph words
-    pick false false false false false false = failure_happens graph names verb words is
+    pick false false false false false false = failure_happens graph names verb words
 
 onto_happens : (graph : Graph) (at : ℕ) (first : Result Event LineKind) (rest : Result (List Event) (ℕ × LineKind)) → IfOk first (IsOfGraph graph)
     → IfOk rest (All (IsOfGraph graph)) → IfOk (event_onto at first rest) (All (IsOfGraph graph))
@@ -280,13 +264,12 @@ onto_happens graph at (Err fault) rest one all = tt
 onto_happens graph at (Ok event) (Err fault) one all = tt
 onto_happens graph at (Ok event) (Ok events) one all = All-cons (IsOfGraph graph) event events one all
 
-pub schedule_happens : (graph : Graph) (names : List (List ℕ)) (at : ℕ) (lines : List (List ℕ)) → IsGraph graph
-    → IfOk (schedule_of graph names at lines) (All (IsOfGraph graph))
-schedule_happens graph names at [] is = All-nil (IsOfGraph graph)
-schedule_happens graph names at (line ∷ lines) is =
-    pick (is_skipped (words_of line)) (schedule_of graph names (at + 1) lines) (schedule_happens graph names (at + 1) lines is)
+pub schedule_happens : (graph : Graph) (names : List (List ℕ)) (at : ℕ) (lines : List (List ℕ)) → IfOk (schedule_of graph names at lines) (All (IsOfGraph graph))
+schedule_happens graph names at [] = All-nil (IsOfGraph graph)
+schedule_happens graph names at (line ∷ lines) =
+    pick (is_skipped (words_of line)) (schedule_of graph names (at + 1) lines) (schedule_happens graph names (at + 1) lines)
   where
     pick : (skipped : Bool) (rest : Result (List Event) (ℕ × LineKind)) → IfOk rest (All (IsOfGraph graph))
         → IfOk (if skipped then rest else event_onto at (line_event graph names (words_of line)) rest) (All (IsOfGraph graph))
     pick true rest all = all
-    pick false rest all = onto_happens graph at (line_event graph names (words_of line)) rest (line_happens graph names (words_of line) is) all
+    pick false rest all = onto_happens graph at (line_event graph names (words_of line)) rest (line_happens graph names (words_of line)) all

@@ -1,4 +1,3 @@
 pub mod HappenLaws
-pub mod NameLaws
 pub mod PlainLaws
 pub mod ScheduleLaws

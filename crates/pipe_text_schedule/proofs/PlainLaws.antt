@@ -3,7 +3,7 @@ use Rattle.std.proofs.Common.{lit<, ◌≡◌, ◌==◌, ℕ, ◌-◌, ◌<◌, 
 use Rattle.std.proofs.lemmas.Bool.Decides.{nat_tests}
 use Rattle.std.proofs.lemmas.List.{take_all}
 use Rattle.std.proofs.lemmas.List.Elements.{All-nil, All-cons}
-use Rattle.pipe_base.specs.Graph.{Graph}
+use Rattle.pipe_graph.specs.Graph.{Graph}
 use Rattle.pipe_base.specs.Limits.{last_stamp}
 use Rattle.pipe_model.specs.declared.event.Event.{Event}
 use Rattle.pipe_model.specs.declared.event.Event.TheVariants.{Take, Tick}
@@ -80,13 +80,13 @@ take_plain graph names text after rest first second number link place split numb
 
 pub tick_plain : (graph : Graph) (names : List (List ℕ)) (text after rest first second : List ℕ) (node now : ℕ)
     → text ≡ first ++ 32 ∷ after → IsPlainWord first → Some node ≡ node_in graph names first
-    → after ≡ second ++ 10 ∷ rest → number_of last_stamp second ≡ Some now
+    → after ≡ second ++ 10 ∷ rest → number_of graph.top second ≡ Some now
     → IsPlain graph names (codes "tick") text rest (Tick (record { 0 = node }) (record { 0 = now }))
 tick_plain graph names text after rest first second node now split first_is node_is split_on now_is = record {
   first = first;
   second = second;
   split = split ∙ ap (λ (more : List ℕ). first ++ 32 ∷ more) split_on;
   first_plain = first_is;
-  second_plain = number_plain last_stamp now second now_is;
-  told = ap (λ (n : Option ℕ). tick_from n (reading_of second)) (sym node_is) ∙ ap (tick_from (Some node)) now_is;
+  second_plain = number_plain graph.top now second now_is;
+  told = ap (λ (n : Option ℕ). tick_from n (reading_of graph second)) (sym node_is) ∙ ap (tick_from (Some node)) now_is;
 }

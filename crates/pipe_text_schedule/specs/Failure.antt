@@ -1,6 +1,6 @@
 -- `crash NODE` and `cut LINK`
 use Rattle.std.specs.Prelude.{ℕ, List, [], ◌∷◌, Option, Some, None, Result, Ok, Err}
-use Rattle.pipe_base.specs.Graph.{Graph}
+use Rattle.pipe_graph.specs.Graph.{Graph}
 use Rattle.pipe_model.specs.declared.event.Event.{Event}
 use Rattle.pipe_model.specs.declared.event.Event.TheVariants.{Crash, Cut}
 use Rattle.pipe_text.specs.declared.kind.LineKind.{LineKind}

@@ -6,6 +6,5 @@ pub mod Plain
 pub mod Receivers
 pub mod Schedule
 pub mod Send
-pub mod Slots
 pub mod Take
 pub mod Tick

@@ -1,6 +1,6 @@
 -- A schedule: the events of its lines in order, or the first bad line with its first fault.
 use Rattle.std.specs.Prelude.{ℕ, ◌+◌, if◌then◌else◌, List, [], ◌∷◌, Result, Ok, Err}
-use Rattle.pipe_base.specs.Graph.{Graph}
+use Rattle.pipe_graph.specs.Graph.{Graph}
 use Rattle.pipe_model.specs.declared.event.Event.{Event}
 use Rattle.pipe_text.specs.declared.kind.LineKind.{LineKind}
 use Rattle.pipe_text.specs.Words.{words_of, is_skipped}

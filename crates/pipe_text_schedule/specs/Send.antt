@@ -4,7 +4,7 @@ use Rattle.pipe_base.specs.declared.name.HostId.{HostId}
 use Rattle.pipe_base.specs.declared.message.Service.{Service}
 use Rattle.pipe_base.specs.declared.message.Service.TheVariants.{BestEffort, Reliable}
 use Rattle.pipe_base.specs.Limits.{most_receivers}
-use Rattle.pipe_base.specs.Graph.{Graph}
+use Rattle.pipe_graph.specs.Graph.{Graph}
 use Rattle.pipe_model.specs.declared.event.Event.{Event}
 use Rattle.pipe_model.specs.declared.event.Event.TheVariants.{Send}
 use Rattle.pipe_text.specs.declared.kind.LineKind.{LineKind}
@@ -36,4 +36,4 @@ send_line graph names [] = Err kind.Count
 send_line graph names (host ∷ []) = Err kind.Count
 send_line graph names (host ∷ service ∷ []) = Err kind.Count
 send_line graph names (host ∷ service ∷ now ∷ receivers) =
-    if_few (length receivers) (send_from (host_in graph names host) (service_of service) (reading_of now) (receivers_in graph names [] receivers))
+    if_few (length receivers) (send_from (host_in graph names host) (service_of service) (reading_of graph now) (receivers_in graph names [] receivers))

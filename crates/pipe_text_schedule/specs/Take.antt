@@ -1,6 +1,6 @@
 -- `take LINK PLACE`, `take LINK PLACE keep` and `lose LINK PLACE`
 use Rattle.std.specs.Prelude.{ℕ, Bool, true, false, if◌then◌else◌, List, [], ◌∷◌, Option, Some, None, Result, Ok, Err, bytes_eq, codes}
-use Rattle.pipe_base.specs.Graph.{Graph}
+use Rattle.pipe_graph.specs.Graph.{Graph}
 use Rattle.pipe_model.specs.declared.event.Event.{Event}
 use Rattle.pipe_model.specs.declared.event.Event.TheVariants.{Take, Lose}
 use Rattle.pipe_text.specs.declared.kind.LineKind.{LineKind}

@@ -1,6 +1,6 @@
 // What becomes of a control message that waits, and decisions of the controller.
 ghost use Rattle.std.specs.Prelude.{◌≡◌, map, IfOk};
-ghost use Rattle.pipe_base.specs.Graph.{Graph};
+ghost use Rattle.pipe_graph.specs.Graph.{Graph};
 ghost use Rattle.pipe_text_schedule.specs.Control.{control_line, control_lose_line, control_take_from, control_take_line, decide_line};
 ghost use Rattle.pipe_model.specs.Event.{IsOfGraph};
 ghost use Rattle.pipe_text_schedule.specs.Take.{place_of};

@@ -11,10 +11,10 @@ use crate::exact::{three_words, two_words};
 use crate::failure::read_failure;
 use crate::name::{link_named, node_named};
 use crate::send::read_send;
-use pipe_base::{LAST_STAMP, NoMemory, Ts};
+use pipe_base::{NoMemory, Ts};
 use pipe_model::Event;
 use pipe_text::{LineKind, read_number};
-use pipe_topo::{Names, Topology};
+use pipe_topo::{NodeNames, Topology};
 use std::alloc::Global;
 
 /// The last place that a take or a loss can name.
@@ -23,7 +23,7 @@ pub const LAST_PLACE: u64 = 4294967295;
 /// The event of a line, by its words, or the line's first fault.
 pub fn read_event(
     alloc: Global,
-    names: &Names,
+    names: &NodeNames,
     topology: &Topology,
     words: &[&[u8]],
 ) -> Result<Result<Event, LineKind>, NoMemory>
@@ -52,7 +52,7 @@ pub fn read_event(
 }
 
 // `tick NODE READING`
-fn read_tick(names: &Names, topology: &Topology, words: &[&[u8]]) -> Result<Event, LineKind>
+fn read_tick(names: &NodeNames, topology: &Topology, words: &[&[u8]]) -> Result<Event, LineKind>
     ensures event { result ≡ tick_line topology.now names.now (map (λ word. word.now) words.now) }
     ensures known { IfOk result (IsOfGraph topology.now) }
 {
@@ -62,7 +62,7 @@ fn read_tick(names: &Names, topology: &Topology, words: &[&[u8]]) -> Result<Even
     let Some(node) = node_named(names, topology, node) else {
         return Err(LineKind::Node);
     };
-    let Some(now) = read_number(now, LAST_STAMP) else {
+    let Some(now) = read_number(now, topology.top().0) else {
         return Err(LineKind::Number);
     };
     Ok(Event::Tick { node, now: Ts(now) })

@@ -8,11 +8,11 @@ use crate::exact::one_word;
 use crate::name::{link_named, node_named};
 use pipe_model::Event;
 use pipe_text::LineKind;
-use pipe_topo::{Names, Topology};
+use pipe_topo::{NodeNames, Topology};
 
 // A line with one of the verbs of failures.
 pub fn read_failure(
-    names: &Names,
+    names: &NodeNames,
     topology: &Topology,
     verb: &[u8],
     words: &[&[u8]],
@@ -30,7 +30,7 @@ pub fn read_failure(
 }
 
 // `crash NODE`
-fn read_crash(names: &Names, topology: &Topology, words: &[&[u8]]) -> Result<Event, LineKind>
+fn read_crash(names: &NodeNames, topology: &Topology, words: &[&[u8]]) -> Result<Event, LineKind>
     ensures event { result ≡ crash_line topology.now names.now (map (λ word. word.now) words.now) }
     ensures known { IfOk result (IsOfGraph topology.now) }
 {

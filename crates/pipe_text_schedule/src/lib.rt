@@ -12,7 +12,6 @@ mod plain;
 mod receivers;
 mod schedule;
 mod send;
-mod slots;
 
 pub use laws::schedules_can_happen;
 pub use schedule::{ScheduleFault, read_schedule};

@@ -3,31 +3,26 @@
 ghost use Rattle.std.specs.Prelude.{◌≡◌, ◌<◌, List, ℕ, codes, IfSome, Some};
 ghost use Rattle.pipe_model.specs.Event.{IsOfGraph};
 ghost use Rattle.pipe_text_schedule.specs.Plain.{IsFirstRead, IsPlain};
-ghost use Rattle.pipe_text_schedule.specs.Slots.{AreNodes};
 
 use crate::event::LAST_PLACE;
-use crate::name::{LAST_LINK, link_numbered};
-use crate::slots::{Slot, node_again};
-use pipe_base::{LAST_STAMP, Ts};
+use crate::name::{LAST_LINK, link_numbered, node_named};
+use pipe_base::Ts;
 use pipe_model::Event;
 use pipe_text::{cut_word, number_before};
-use pipe_topo::{Names, Topology};
+use pipe_topo::{NodeNames, Topology};
 
 /// The event of the first line and the text after that line, where that is a take or a tick in this form without a fault.
 pub fn read_plain_line<'a>(
-    slots: &mut [Slot<'a>],
-    names: &Names,
+    names: &NodeNames,
     topology: &Topology,
     text: &'a [u8],
 ) -> Option<(Event, &'a [u8])>
-    requires { AreNodes topology.now names.now slots.old }
     ensures event { IfSome result (λ p. IsFirstRead topology.now names.now text.now p.1.now (Some p.0)) }
     ensures known { IfSome result (λ p. IsOfGraph topology.now p.0) }
-    ensures nodes { AreNodes topology.now names.now slots.new }
 {
     match text {
         [b't', b'a', b'k', b'e', b' ', rest @ ..] => read_plain_take(topology, rest),
-        [b't', b'i', b'c', b'k', b' ', rest @ ..] => read_plain_tick(slots, names, topology, rest),
+        [b't', b'i', b'c', b'k', b' ', rest @ ..] => read_plain_tick(names, topology, rest),
         _ => None,
     }
 }
@@ -50,21 +45,18 @@ fn read_plain_take<'a>(topology: &Topology, text: &'a [u8]) -> Option<(Event, &'
 
 // `NODE READING`
 fn read_plain_tick<'a>(
-    slots: &mut [Slot<'a>],
-    names: &Names,
+    names: &NodeNames,
     topology: &Topology,
     text: &'a [u8],
 ) -> Option<(Event, &'a [u8])>
-    requires { AreNodes topology.now names.now slots.old }
     ensures event { IfSome result (λ p. IsPlain topology.now names.now (codes "tick") text.now p.1.now p.0) }
     ensures known { IfSome result (λ p. IsOfGraph topology.now p.0) }
-    ensures nodes { AreNodes topology.now names.now slots.new }
 {
     let (node, stop, rest) = cut_word(text)?;
     if node.is_empty() || stop != b' ' {
         return None;
     }
-    let (now, rest) = number_before(rest, b'\n', LAST_STAMP)?;
-    let node = node_again(slots, names, topology, node)?;
+    let (now, rest) = number_before(rest, b'\n', topology.top().0)?;
+    let node = node_named(names, topology, node)?;
     Some((Event::Tick { node, now: Ts(now) }, rest))
 }

@@ -7,13 +7,13 @@ ghost use Rattle.pipe_text_schedule.specs.Receivers.{is_named, receiver_from, re
 use crate::name::host_named;
 use pipe_base::{Body, Dest, DestList, HostId, List, NoMemory};
 use pipe_text::{LineKind, read_body};
-use pipe_topo::{Names, Topology};
+use pipe_topo::{NodeNames, Topology};
 use std::alloc::Global;
 
 /// The receivers of one to sixteen words, all different, or the first fault.
 pub fn read_receivers(
     alloc: Global,
-    names: &Names,
+    names: &NodeNames,
     topology: &Topology,
     words: &[&[u8]],
 ) -> Result<Result<DestList, LineKind>, NoMemory>
@@ -34,7 +34,7 @@ pub fn read_receivers(
 // The receiver of a word, after those that were read.
 fn receiver_of(
     alloc: Global,
-    names: &Names,
+    names: &NodeNames,
     topology: &Topology,
     before: &[Dest],
     word: &[u8],

@@ -8,15 +8,13 @@ ghost use Rattle.pipe_model.specs.Event.{IsOfGraph};
 ghost use Rattle.pipe_text_schedule.specs.Line.{line_event};
 ghost use Rattle.pipe_text_schedule.specs.Plain.{IsFirstBad, IsFirstRead};
 ghost use Rattle.pipe_text_schedule.specs.Schedule.{schedule_of};
-ghost use Rattle.pipe_text_schedule.specs.Slots.{AreNodes};
 
 use crate::event::read_event;
 use crate::plain::read_plain_line;
-use crate::slots::{Slot, no_slots};
 use pipe_base::{List, NoMemory};
 use pipe_model::{Event, EventList};
 use pipe_text::{LineKind, is_skipped, read_line_words};
-use pipe_topo::{Names, Topology};
+use pipe_topo::{NodeNames, Topology};
 use std::alloc::Global;
 
 /// Why there are no events.
@@ -41,7 +39,7 @@ impl From<NoMemory> for ScheduleFault {
 /// The events of a schedule whose first line has the number `first`.
 pub fn read_schedule(
     alloc: Global,
-    names: &Names,
+    names: &NodeNames,
     topology: &Topology,
     text: &[u8],
     first: u32,
@@ -53,13 +51,10 @@ pub fn read_schedule(
 {
     let mut events = List::new(alloc);
     let mut words = Vec::new(alloc);
-    let mut slots = no_slots();
     let mut rest = text;
     let mut line = first;
     'lines: while !rest.is_empty() {
-        let (event, after) = match read_first_line(
-            alloc, names, topology, &mut slots, &mut words, rest, line,
-        ) {
+        let (event, after) = match read_first_line(alloc, names, topology, &mut words, rest, line) {
             Ok(read) => read,
             Err(fault) => return Err(fault),
         };
@@ -81,24 +76,21 @@ fn add(events: &mut EventList, event: Option<Event>) -> Result<(), NoMemory>
 }
 
 // The event of the first line, which has this number, and the text after that line. No event where the line is skipped. The
-// slots keep nodes for the lines to come, and the words are room that each line uses anew.
+// words are room that each line uses anew.
 fn read_first_line<'a>(
     alloc: Global,
-    names: &Names,
+    names: &NodeNames,
     topology: &Topology,
-    slots: &mut [Slot<'a>],
     words: &mut Vec<&'a [u8]>,
     text: &'a [u8],
     line: u32,
 ) -> Result<(Option<Event>, &'a [u8]), ScheduleFault>
-    requires some { 0 < length text.now }
-    requires nodes { AreNodes topology.now names.now slots.old }
+    requires { 0 < length text.now }
     ensures event { IfOk result (λ p. IsFirstRead topology.now names.now text.now p.1.now p.0) }
     ensures known { IfOk result (λ p. IfSome p.0 (IsOfGraph topology.now)) }
     ensures fault { (at : ℕ) (kind : Kind) → result ≡ Err (ScheduleFault.Line at kind) → (at ≡ line) × IsFirstBad topology.now names.now text.now kind }
-    ensures nodes { AreNodes topology.now names.now slots.new }
 {
-    if let Some((event, rest)) = read_plain_line(slots, names, topology, text) {
+    if let Some((event, rest)) = read_plain_line(names, topology, text) {
         return Ok((Some(event), rest));
     }
     let rest = read_line_words(words, text)?;
@@ -111,7 +103,7 @@ fn read_first_line<'a>(
 // The event of the line with these words and this number. None where the line is skipped.
 fn read_line(
     alloc: Global,
-    names: &Names,
+    names: &NodeNames,
     topology: &Topology,
     words: &[&[u8]],
     line: u32,

@@ -9,16 +9,16 @@ ghost use Rattle.pipe_text_schedule.specs.Tick.{reading_of};
 
 use crate::name::host_named;
 use crate::receivers::read_receivers;
-use pipe_base::{LAST_STAMP, NoMemory, RECEIVER_LIMIT, Service, Ts};
+use pipe_base::{NoMemory, RECEIVER_LIMIT, Service, Ts};
 use pipe_model::Event;
 use pipe_text::{LineKind, read_number};
-use pipe_topo::{Names, Topology};
+use pipe_topo::{NodeNames, Topology};
 use std::alloc::Global;
 
 /// `send HOST SERVICE READING HOST=BODY ..`, by the words after the verb.
 pub fn read_send(
     alloc: Global,
-    names: &Names,
+    names: &NodeNames,
     topology: &Topology,
     words: &[&[u8]],
 ) -> Result<Result<Event, LineKind>, NoMemory>
@@ -46,7 +46,7 @@ pub fn read_send(
 // The words of a send in order, of which there are as many as it wants.
 fn read_fields(
     alloc: Global,
-    names: &Names,
+    names: &NodeNames,
     topology: &Topology,
     host: &[u8],
     service: &[u8],
@@ -54,7 +54,7 @@ fn read_fields(
     receivers: &[&[u8]],
 ) -> Result<Result<Event, LineKind>, NoMemory>
     requires { (0 < length receivers.now) × (length receivers.now ≤ most_receivers) }
-    ensures event { IfOk result (λ read. read ≡ send_from (host_in topology.now names.now host.now) (service_of service.now) (reading_of now.now) (receivers_in topology.now names.now [] (map (λ word. word.now) receivers.now))) }
+    ensures event { IfOk result (λ read. read ≡ send_from (host_in topology.now names.now host.now) (service_of service.now) (reading_of topology.now now.now) (receivers_in topology.now names.now [] (map (λ word. word.now) receivers.now))) }
     ensures known { IfOk result (λ read. IfOk read (IsOfGraph topology.now)) }
 {
     let Some(host) = host_named(names, topology, host) else {
@@ -63,7 +63,7 @@ fn read_fields(
     let Some(service) = service_of(service) else {
         return Ok(Err(LineKind::Service));
     };
-    let Some(now) = read_number(now, LAST_STAMP) else {
+    let Some(now) = read_number(now, topology.top().0) else {
         return Ok(Err(LineKind::Number));
     };
     match read_receivers(alloc, names, topology, receivers)? {

@@ -6,7 +6,6 @@ use Rattle.pipe_model.specs.declared.event.Event.TheVariants.{Send, Tick, Take, 
 use Rattle.pipe_text.specs.Body.{hex_text}
 use Rattle.pipe_text.specs.Log.{service_word}
 use Rattle.pipe_text.specs.Name.{name_of}
-use Rattle.pipe_text_trace.specs.Node.{node_name}
 
 -- `HOST=BODY`, where nothing follows the `=` of an empty body
 abbrev pub dest_word : List (List ℕ) → (HostId × List ℕ) → List ℕ
@@ -30,17 +29,17 @@ verb_word (Crash node) = codes "crash"
 verb_word (Cut link) = codes "cut"
 
 -- the words after the first one
-abbrev pub detail_words : List (List ℕ) → ℕ → Event → List (List ℕ)
-detail_words names hosts (Send host service now dests) = name_of names host.0 ∷ service_word service ∷ decimal now.0 ∷ map (dest_word names) dests
-detail_words names hosts (Tick node now) = node_name names hosts node.0 ∷ decimal now.0 ∷ []
-detail_words names hosts (Take link place keep) = decimal link.0 ∷ decimal place ∷ keep_words keep
-detail_words names hosts (Lose link place) = decimal link.0 ∷ decimal place ∷ []
-detail_words names hosts (ControlTake place keep) = codes "take" ∷ decimal place ∷ keep_words keep
-detail_words names hosts (ControlLose place) = codes "lose" ∷ decimal place ∷ []
-detail_words names hosts Decide = []
-detail_words names hosts (Crash node) = node_name names hosts node.0 ∷ []
-detail_words names hosts (Cut link) = decimal link.0 ∷ []
+abbrev pub detail_words : List (List ℕ) → Event → List (List ℕ)
+detail_words names (Send host service now dests) = name_of names host.0 ∷ service_word service ∷ decimal now.0 ∷ map (dest_word names) dests
+detail_words names (Tick node now) = name_of names node.0 ∷ decimal now.0 ∷ []
+detail_words names (Take link place keep) = decimal link.0 ∷ decimal place ∷ keep_words keep
+detail_words names (Lose link place) = decimal link.0 ∷ decimal place ∷ []
+detail_words names (ControlTake place keep) = codes "take" ∷ decimal place ∷ keep_words keep
+detail_words names (ControlLose place) = codes "lose" ∷ decimal place ∷ []
+detail_words names Decide = []
+detail_words names (Crash node) = name_of names node.0 ∷ []
+detail_words names (Cut link) = decimal link.0 ∷ []
 
 -- the line of a schedule that tells the event
-abbrev pub event_words : List (List ℕ) → ℕ → Event → List (List ℕ)
-event_words names hosts event = verb_word event ∷ detail_words names hosts event
+abbrev pub event_words : List (List ℕ) → Event → List (List ℕ)
+event_words names event = verb_word event ∷ detail_words names event

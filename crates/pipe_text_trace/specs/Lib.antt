@@ -1,7 +1,6 @@
 pub mod Control
 pub mod Event
 pub mod Line
-pub mod Node
 pub mod Packet
 pub mod Record
 pub mod Step

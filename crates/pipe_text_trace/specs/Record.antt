@@ -21,8 +21,8 @@ use Rattle.pipe_text_trace.specs.Packet.{packet_words}
 use Rattle.pipe_text_trace.specs.Step.{fate_words, outcome_words}
 
 -- `event I LINE`
-abbrev pub event_line : List (List ℕ) → ℕ → ℕ → Event → List (List ℕ)
-event_line names hosts at event = codes "event" ∷ decimal at ∷ event_words names hosts event
+abbrev pub event_line : List (List ℕ) → ℕ → Event → List (List ℕ)
+event_line names at event = codes "event" ∷ decimal at ∷ event_words names event
 
 -- `outcome WORD`
 abbrev pub outcome_line : List (List ℕ) → Outcome → List (List ℕ)
@@ -34,10 +34,10 @@ stamp_lines None = []
 stamp_lines (Some ts) = (codes "stamp" ∷ decimal ts.0 ∷ []) ∷ []
 
 -- `took LINK PACKET` or `tookcontrol ADDRESSED`, where something was taken
-abbrev pub took_lines : List (List ℕ) → ℕ → Took → List (List (List ℕ))
-took_lines names hosts Nothing = []
-took_lines names hosts (Link link packet) = (codes "took" ∷ link_word link ∷ packet_words names packet) ∷ []
-took_lines names hosts (Message addressed) = (codes "tookcontrol" ∷ addressed_words names hosts addressed) ∷ []
+abbrev pub took_lines : List (List ℕ) → Took → List (List (List ℕ))
+took_lines names Nothing = []
+took_lines names (Link link packet) = (codes "took" ∷ link_word link ∷ packet_words names packet) ∷ []
+took_lines names (Message addressed) = (codes "tookcontrol" ∷ addressed_words names addressed) ∷ []
 
 -- `down LINK VALUE`
 abbrev pub down_line : (LinkId × Ts) → List (List ℕ)
@@ -66,24 +66,24 @@ abbrev pub put_line : List (List ℕ) → (LinkId × Packet) → List (List ℕ)
 put_line names put = codes "put" ∷ link_word put.0 ∷ packet_words names put.1
 
 -- `control ADDRESSED`
-abbrev pub control_line : List (List ℕ) → ℕ → Addressed → List (List ℕ)
-control_line names hosts addressed = codes "control" ∷ addressed_words names hosts addressed
+abbrev pub control_line : List (List ℕ) → Addressed → List (List ℕ)
+control_line names addressed = codes "control" ∷ addressed_words names addressed
 
 -- `unrouted N`, where N is not 0
 abbrev pub unrouted_lines : ℕ → List (List (List ℕ))
 unrouted_lines count = if count == 0 then [] else (codes "unrouted" ∷ decimal count ∷ []) ∷ []
 
 -- all lines of a record, in order: it is the record with this number
-abbrev pub record_lines : List (List ℕ) → ℕ → ℕ → Record → List (List (List ℕ))
-record_lines names hosts at r =
-    event_line names hosts at r.event ∷ outcome_line names r.step.outcome ∷ []
+abbrev pub record_lines : List (List ℕ) → ℕ → Record → List (List (List ℕ))
+record_lines names at r =
+    event_line names at r.event ∷ outcome_line names r.step.outcome ∷ []
     ++ stamp_lines r.step.stamped
-    ++ took_lines names hosts r.took
+    ++ took_lines names r.took
     ++ map down_line r.step.downed
     ++ map (noted_line names) r.step.noted
     ++ map dropped_line r.step.dropped
     ++ fate_lines r.step.fate
     ++ map (logged_line names) r.step.logged
     ++ map (put_line names) r.step.put
-    ++ map (control_line names hosts) r.step.control
+    ++ map (control_line names) r.step.control
     ++ unrouted_lines r.step.unrouted

@@ -7,19 +7,19 @@ use Rattle.pipe_text_trace.specs.Line.{line_text, lines_text}
 use Rattle.pipe_text_trace.specs.Record.{record_lines}
 
 -- the lines of records, which are numbered from this number on
-abbrev pub records_lines : List (List ℕ) → ℕ → ℕ → List Record → List (List (List ℕ))
-records_lines names hosts at [] = []
-records_lines names hosts at (r ∷ rs) = record_lines names hosts at r ++ records_lines names hosts (at + 1) rs
+abbrev pub records_lines : List (List ℕ) → ℕ → List Record → List (List (List ℕ))
+records_lines names at [] = []
+records_lines names at (r ∷ rs) = record_lines names at r ++ records_lines names (at + 1) rs
 
 -- the lines of a trace, the oldest record first: how many records there are, each record, and the end
-abbrev pub trace_lines : List (List ℕ) → ℕ → List Record → List (List (List ℕ))
-trace_lines names hosts trace =
-    (codes "trace" ∷ decimal (length trace) ∷ []) ∷ [] ++ records_lines names hosts 0 trace ++ (codes "end" ∷ []) ∷ []
+abbrev pub trace_lines : List (List ℕ) → List Record → List (List (List ℕ))
+trace_lines names trace =
+    (codes "trace" ∷ decimal (length trace) ∷ []) ∷ [] ++ records_lines names 0 trace ++ (codes "end" ∷ []) ∷ []
 
--- the text of a trace of a network with so many hosts, whose names come first
-abbrev pub trace_text : List (List ℕ) → ℕ → List Record → List ℕ
-trace_text names hosts trace = lines_text (trace_lines names hosts trace)
+-- the text of a trace of a network whose nodes have these names
+abbrev pub trace_text : List (List ℕ) → List Record → List ℕ
+trace_text names trace = lines_text (trace_lines names trace)
 
 -- an event as a line of a schedule
-abbrev pub event_text : List (List ℕ) → ℕ → Event → List ℕ
-event_text names hosts event = line_text (event_words names hosts event)
+abbrev pub event_text : List (List ℕ) → Event → List ℕ
+event_text names event = line_text (event_words names event)

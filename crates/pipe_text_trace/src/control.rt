@@ -7,9 +7,13 @@ use crate::node::{print_host, print_node};
 use crate::word::{print_number, print_word};
 use itoa::Buffer;
 use pipe_base::{Addressed, Announced, Control, LinkId, NoMemory, To};
-use pipe_topo::Names;
+use pipe_topo::NodeNames;
 
-fn print_announced(out: &mut Vec<u8>, names: &Names, announced: Announced) -> Result<(), NoMemory>
+fn print_announced(
+    out: &mut Vec<u8>,
+    names: &NodeNames,
+    announced: Announced,
+) -> Result<(), NoMemory>
     ensures { OnOk result (out.new.items ≡ out.old.items ++ next_words (announced_word names.now announced ∷ [])) }
 {
     print_host(out, names, announced.host)?;
@@ -18,7 +22,11 @@ fn print_announced(out: &mut Vec<u8>, names: &Names, announced: Announced) -> Re
     Ok(())
 }
 
-fn print_all_announced(out: &mut Vec<u8>, names: &Names, list: &[Announced]) -> Result<(), NoMemory>
+fn print_all_announced(
+    out: &mut Vec<u8>,
+    names: &NodeNames,
+    list: &[Announced],
+) -> Result<(), NoMemory>
     ensures { OnOk result (out.new.items ≡ out.old.items ++ next_words (map (announced_word names.now) list.now)) }
 {
     'list: for entry in list {
@@ -36,13 +44,8 @@ fn print_links(out: &mut Vec<u8>, links: &[LinkId]) -> Result<(), NoMemory>
     Ok(())
 }
 
-fn print_control(
-    out: &mut Vec<u8>,
-    names: &Names,
-    hosts: u16,
-    control: &Control,
-) -> Result<(), NoMemory>
-    ensures { OnOk result (out.new.items ≡ out.old.items ++ next_words (control_words names.now hosts control.now)) }
+fn print_control(out: &mut Vec<u8>, names: &NodeNames, control: &Control) -> Result<(), NoMemory>
+    ensures { OnOk result (out.new.items ≡ out.old.items ++ next_words (control_words names.now control.now)) }
 {
     match control {
         Control::Down { link, value } => {
@@ -71,31 +74,30 @@ fn print_control(
         }
         Control::Gone { node, count } => {
             print_word(out, b"gone")?;
-            print_node(out, names, hosts, *node)?;
+            print_node(out, names, *node)?;
             print_number(out, *count)
         }
     }
 }
 
-fn print_receiver(out: &mut Vec<u8>, names: &Names, hosts: u16, to: To) -> Result<(), NoMemory>
-    ensures { OnOk result (out.new.items ≡ out.old.items ++ next_words (receiver_word names.now hosts to ∷ [])) }
+fn print_receiver(out: &mut Vec<u8>, names: &NodeNames, to: To) -> Result<(), NoMemory>
+    ensures { OnOk result (out.new.items ≡ out.old.items ++ next_words (receiver_word names.now to ∷ [])) }
 {
     match to {
         To::Controller => print_word(out, b"controller"),
-        To::Node(node) => print_node(out, names, hosts, node),
+        To::Node(node) => print_node(out, names, node),
     }
 }
 
 /// Appends the words of a control message with its receiver.
 pub fn print_addressed(
     out: &mut Vec<u8>,
-    names: &Names,
-    hosts: u16,
+    names: &NodeNames,
     addressed: &Addressed,
 ) -> Result<(), NoMemory>
-    ensures { OnOk result (out.new.items ≡ out.old.items ++ next_words (addressed_words names.now hosts addressed.now)) }
+    ensures { OnOk result (out.new.items ≡ out.old.items ++ next_words (addressed_words names.now addressed.now)) }
 {
     print_word(out, b"to")?;
-    print_receiver(out, names, hosts, addressed.to)?;
-    print_control(out, names, hosts, &addressed.control)
+    print_receiver(out, names, addressed.to)?;
+    print_control(out, names, &addressed.control)
 }

@@ -11,12 +11,12 @@ use crate::word::{print_first_word, print_line_end, print_number, print_word};
 use pipe_base::{Body, Dest, HostId, List, NoMemory, Service, Ts};
 use pipe_model::Event;
 use pipe_text::{Text, print_hex, service_word};
-use pipe_topo::Names;
+use pipe_topo::NodeNames;
 use std::alloc::Global;
 
 fn print_dest(
     out: &mut Vec<u8>,
-    names: &Names,
+    names: &NodeNames,
     receiver: HostId,
     body: &Body,
 ) -> Result<(), NoMemory>
@@ -27,7 +27,7 @@ fn print_dest(
     print_hex(out, body.bytes())
 }
 
-fn print_dests(out: &mut Vec<u8>, names: &Names, dests: &[Dest]) -> Result<(), NoMemory>
+fn print_dests(out: &mut Vec<u8>, names: &NodeNames, dests: &[Dest]) -> Result<(), NoMemory>
     ensures { OnOk result (out.new.items ≡ out.old.items ++ next_words (map (dest_word names.now) dests.now)) }
 {
     'dests: for (receiver, body) in dests {
@@ -38,7 +38,7 @@ fn print_dests(out: &mut Vec<u8>, names: &Names, dests: &[Dest]) -> Result<(), N
 
 fn print_sending(
     out: &mut Vec<u8>,
-    names: &Names,
+    names: &NodeNames,
     sender: HostId,
     service: Service,
     now: Ts,
@@ -76,13 +76,8 @@ fn verb_word(event: &Event) -> &'static [u8]
     }
 }
 
-fn print_details(
-    out: &mut Vec<u8>,
-    names: &Names,
-    hosts: u16,
-    event: &Event,
-) -> Result<(), NoMemory>
-    ensures { OnOk result (out.new.items ≡ out.old.items ++ next_words (detail_words names.now hosts event.now)) }
+fn print_details(out: &mut Vec<u8>, names: &NodeNames, event: &Event) -> Result<(), NoMemory>
+    ensures { OnOk result (out.new.items ≡ out.old.items ++ next_words (detail_words names.now event.now)) }
 {
     match event {
         Event::Send {
@@ -95,7 +90,7 @@ fn print_details(
             print_dests(out, names, dests.as_slice())
         }
         Event::Tick { node, now } => {
-            print_node(out, names, hosts, *node)?;
+            print_node(out, names, *node)?;
             print_number(out, now.0)
         }
         Event::Take { link, place, keep } => {
@@ -117,7 +112,7 @@ fn print_details(
             print_number(out, *place)
         }
         Event::Decide => Ok(()),
-        Event::Crash { node } => print_node(out, names, hosts, *node),
+        Event::Crash { node } => print_node(out, names, *node),
         Event::Cut { link } => print_number(out, link.0),
     }
 }
@@ -125,29 +120,23 @@ fn print_details(
 /// Appends the words of an event after another word of the line.
 pub fn print_event_after(
     out: &mut Vec<u8>,
-    names: &Names,
-    hosts: u16,
+    names: &NodeNames,
     event: &Event,
 ) -> Result<(), NoMemory>
-    ensures { OnOk result (out.new.items ≡ out.old.items ++ next_words (event_words names.now hosts event.now)) }
+    ensures { OnOk result (out.new.items ≡ out.old.items ++ next_words (event_words names.now event.now)) }
 {
     print_word(out, verb_word(event))?;
-    print_details(out, names, hosts, event)
+    print_details(out, names, event)
 }
 
 /// An event as a line of a schedule, with its line feed. The names of the `hosts` hosts come first; a name that is not
 /// there is empty.
-pub fn print_event(
-    alloc: Global,
-    names: &Names,
-    hosts: u16,
-    event: &Event,
-) -> Result<Text, NoMemory>
-    ensures { IfOk result (λ text. text ≡ event_text names.now hosts event.now) }
+pub fn print_event(alloc: Global, names: &NodeNames, event: &Event) -> Result<Text, NoMemory>
+    ensures { IfOk result (λ text. text ≡ event_text names.now event.now) }
 {
     let mut out = Vec::new(alloc);
     print_first_word(&mut out, verb_word(event))?;
-    print_details(&mut out, names, hosts, event)?;
+    print_details(&mut out, names, event)?;
     print_line_end(&mut out)?;
     Ok(List::from_vec(out))
 }

@@ -6,7 +6,7 @@ ghost use Rattle.pipe_text_trace.specs.Packet.{barrier_words, carried_words, kin
 use crate::node::print_host;
 use crate::word::{print_body, print_number, print_word};
 use pipe_base::{NoMemory, Packet, PacketKind};
-use pipe_topo::Names;
+use pipe_topo::NodeNames;
 
 fn kind_word(kind: PacketKind) -> &'static [u8]
     ensures { result.now ≡ kind_word kind }
@@ -28,7 +28,7 @@ fn print_barriers(out: &mut Vec<u8>, packet: &Packet) -> Result<(), NoMemory>
     print_number(out, packet.commit.0)
 }
 
-fn print_message(out: &mut Vec<u8>, names: &Names, packet: &Packet) -> Result<(), NoMemory>
+fn print_message(out: &mut Vec<u8>, names: &NodeNames, packet: &Packet) -> Result<(), NoMemory>
     ensures { OnOk result (out.new.items ≡ out.old.items ++ next_words (message_words names.now packet.now [])) }
 {
     print_host(out, names, packet.src)?;
@@ -37,7 +37,7 @@ fn print_message(out: &mut Vec<u8>, names: &Names, packet: &Packet) -> Result<()
     print_barriers(out, packet)
 }
 
-fn print_carried(out: &mut Vec<u8>, names: &Names, packet: &Packet) -> Result<(), NoMemory>
+fn print_carried(out: &mut Vec<u8>, names: &NodeNames, packet: &Packet) -> Result<(), NoMemory>
     ensures { OnOk result (out.new.items ≡ out.old.items ++ next_words (carried_words names.now packet.now.kind packet.now)) }
 {
     match packet.kind {
@@ -53,7 +53,7 @@ fn print_carried(out: &mut Vec<u8>, names: &Names, packet: &Packet) -> Result<()
 }
 
 /// Appends the words of a packet.
-pub fn print_packet(out: &mut Vec<u8>, names: &Names, packet: &Packet) -> Result<(), NoMemory>
+pub fn print_packet(out: &mut Vec<u8>, names: &NodeNames, packet: &Packet) -> Result<(), NoMemory>
     ensures { OnOk result (out.new.items ≡ out.old.items ++ next_words (packet_words names.now packet.now)) }
 {
     print_word(out, kind_word(packet.kind))?;

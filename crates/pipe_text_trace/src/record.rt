@@ -14,24 +14,27 @@ use pipe_base::{
 };
 use pipe_model::{Event, Record, Took};
 use pipe_text::service_word;
-use pipe_topo::Names;
+use pipe_topo::NodeNames;
 
 fn print_event_line(
     out: &mut Vec<u8>,
-    names: &Names,
-    hosts: u16,
+    names: &NodeNames,
     at: usize,
     event: &Event,
 ) -> Result<(), NoMemory>
-    ensures { OnOk result (out.new.items ≡ out.old.items ++ lines_text (event_line names.now hosts at event.now ∷ [])) }
+    ensures { OnOk result (out.new.items ≡ out.old.items ++ lines_text (event_line names.now at event.now ∷ [])) }
 {
     print_first_word(out, b"event")?;
     print_number(out, at)?;
-    print_event_after(out, names, hosts, event)?;
+    print_event_after(out, names, event)?;
     print_line_end(out)
 }
 
-fn print_outcome_line(out: &mut Vec<u8>, names: &Names, outcome: Outcome) -> Result<(), NoMemory>
+fn print_outcome_line(
+    out: &mut Vec<u8>,
+    names: &NodeNames,
+    outcome: Outcome,
+) -> Result<(), NoMemory>
     ensures { OnOk result (out.new.items ≡ out.old.items ++ lines_text (outcome_line names.now outcome ∷ [])) }
 {
     print_first_word(out, b"outcome")?;
@@ -50,13 +53,8 @@ fn print_stamp_lines(out: &mut Vec<u8>, stamped: Option<Ts>) -> Result<(), NoMem
     print_line_end(out)
 }
 
-fn print_took_lines(
-    out: &mut Vec<u8>,
-    names: &Names,
-    hosts: u16,
-    took: &Took,
-) -> Result<(), NoMemory>
-    ensures { OnOk result (out.new.items ≡ out.old.items ++ lines_text (took_lines names.now hosts took.now)) }
+fn print_took_lines(out: &mut Vec<u8>, names: &NodeNames, took: &Took) -> Result<(), NoMemory>
+    ensures { OnOk result (out.new.items ≡ out.old.items ++ lines_text (took_lines names.now took.now)) }
 {
     match took {
         Took::Nothing => Ok(()),
@@ -68,7 +66,7 @@ fn print_took_lines(
         }
         Took::Message { addressed } => {
             print_first_word(out, b"tookcontrol")?;
-            print_addressed(out, names, hosts, addressed)?;
+            print_addressed(out, names, addressed)?;
             print_line_end(out)
         }
     }
@@ -92,7 +90,7 @@ fn print_down_lines(out: &mut Vec<u8>, downed: &[(LinkId, Ts)]) -> Result<(), No
     Ok(())
 }
 
-fn print_noted_line(out: &mut Vec<u8>, names: &Names, noted: Announced) -> Result<(), NoMemory>
+fn print_noted_line(out: &mut Vec<u8>, names: &NodeNames, noted: Announced) -> Result<(), NoMemory>
     ensures { OnOk result (out.new.items ≡ out.old.items ++ line_text (noted_line names.now noted)) }
 {
     print_first_word(out, b"noted")?;
@@ -101,7 +99,11 @@ fn print_noted_line(out: &mut Vec<u8>, names: &Names, noted: Announced) -> Resul
     print_line_end(out)
 }
 
-fn print_noted_lines(out: &mut Vec<u8>, names: &Names, noted: &[Announced]) -> Result<(), NoMemory>
+fn print_noted_lines(
+    out: &mut Vec<u8>,
+    names: &NodeNames,
+    noted: &[Announced],
+) -> Result<(), NoMemory>
     ensures { OnOk result (out.new.items ≡ out.old.items ++ lines_text (map (noted_line names.now) noted.now)) }
 {
     'noted: for entry in noted {
@@ -140,7 +142,7 @@ fn print_fate_lines(out: &mut Vec<u8>, received: Option<Fate>) -> Result<(), NoM
 
 fn print_logged_line(
     out: &mut Vec<u8>,
-    names: &Names,
+    names: &NodeNames,
     service: Service,
     entry: &Entry,
 ) -> Result<(), NoMemory>
@@ -156,7 +158,7 @@ fn print_logged_line(
 
 fn print_logged_lines(
     out: &mut Vec<u8>,
-    names: &Names,
+    names: &NodeNames,
     logged: &[(Service, Entry)],
 ) -> Result<(), NoMemory>
     ensures { OnOk result (out.new.items ≡ out.old.items ++ lines_text (map (logged_line names.now) logged.now)) }
@@ -169,7 +171,7 @@ fn print_logged_lines(
 
 fn print_put_line(
     out: &mut Vec<u8>,
-    names: &Names,
+    names: &NodeNames,
     link: LinkId,
     put: &Packet,
 ) -> Result<(), NoMemory>
@@ -183,7 +185,7 @@ fn print_put_line(
 
 fn print_put_lines(
     out: &mut Vec<u8>,
-    names: &Names,
+    names: &NodeNames,
     puts: &[(LinkId, Packet)],
 ) -> Result<(), NoMemory>
     ensures { OnOk result (out.new.items ≡ out.old.items ++ lines_text (map (put_line names.now) puts.now)) }
@@ -196,27 +198,25 @@ fn print_put_lines(
 
 fn print_control_line(
     out: &mut Vec<u8>,
-    names: &Names,
-    hosts: u16,
+    names: &NodeNames,
     told: &Addressed,
 ) -> Result<(), NoMemory>
-    ensures { OnOk result (out.new.items ≡ out.old.items ++ line_text (control_line names.now hosts told.now)) }
+    ensures { OnOk result (out.new.items ≡ out.old.items ++ line_text (control_line names.now told.now)) }
 {
     print_first_word(out, b"control")?;
-    print_addressed(out, names, hosts, told)?;
+    print_addressed(out, names, told)?;
     print_line_end(out)
 }
 
 fn print_control_lines(
     out: &mut Vec<u8>,
-    names: &Names,
-    hosts: u16,
+    names: &NodeNames,
     control: &[Addressed],
 ) -> Result<(), NoMemory>
-    ensures { OnOk result (out.new.items ≡ out.old.items ++ lines_text (map (control_line names.now hosts) control.now)) }
+    ensures { OnOk result (out.new.items ≡ out.old.items ++ lines_text (map (control_line names.now) control.now)) }
 {
     'control: for told in control {
-        print_control_line(out, names, hosts, told)?;
+        print_control_line(out, names, told)?;
     }
     Ok(())
 }
@@ -235,24 +235,23 @@ fn print_unrouted_lines(out: &mut Vec<u8>, count: u32) -> Result<(), NoMemory>
 /// Appends the lines of the record with this number.
 pub fn print_record(
     out: &mut Vec<u8>,
-    names: &Names,
-    hosts: u16,
+    names: &NodeNames,
     at: usize,
     happened: &Record,
 ) -> Result<(), NoMemory>
-    ensures { OnOk result (out.new.items ≡ out.old.items ++ lines_text (record_lines names.now hosts at happened.now)) }
+    ensures { OnOk result (out.new.items ≡ out.old.items ++ lines_text (record_lines names.now at happened.now)) }
 {
     let step = &happened.step;
-    print_event_line(out, names, hosts, at, &happened.event)?;
+    print_event_line(out, names, at, &happened.event)?;
     print_outcome_line(out, names, step.outcome())?;
     print_stamp_lines(out, step.stamped())?;
-    print_took_lines(out, names, hosts, &happened.took)?;
+    print_took_lines(out, names, &happened.took)?;
     print_down_lines(out, step.downed())?;
     print_noted_lines(out, names, step.noted())?;
     print_dropped_lines(out, step.dropped())?;
     print_fate_lines(out, step.fate())?;
     print_logged_lines(out, names, step.logged())?;
     print_put_lines(out, names, step.put())?;
-    print_control_lines(out, names, hosts, step.control())?;
+    print_control_lines(out, names, step.control())?;
     print_unrouted_lines(out, step.unrouted())
 }

@@ -6,10 +6,10 @@ ghost use Rattle.pipe_text_trace.specs.Step.{fate_words, outcome_words};
 use crate::node::print_host;
 use crate::word::{print_number, print_word};
 use pipe_base::{Fate, NoMemory, Outcome};
-use pipe_topo::Names;
+use pipe_topo::NodeNames;
 
 /// Appends the words of an outcome.
-pub fn print_outcome(out: &mut Vec<u8>, names: &Names, outcome: Outcome) -> Result<(), NoMemory>
+pub fn print_outcome(out: &mut Vec<u8>, names: &NodeNames, outcome: Outcome) -> Result<(), NoMemory>
     ensures { OnOk result (out.new.items ≡ out.old.items ++ next_words (outcome_words names.now outcome)) }
 {
     match outcome {

@@ -8,7 +8,7 @@ use crate::word::{print_first_word, print_line_end, print_number};
 use pipe_base::{List, NoMemory};
 use pipe_model::{Record, Trace};
 use pipe_text::Text;
-use pipe_topo::Names;
+use pipe_topo::NodeNames;
 use std::alloc::Global;
 
 fn print_head(out: &mut Vec<u8>, records: usize) -> Result<(), NoMemory>
@@ -19,16 +19,11 @@ fn print_head(out: &mut Vec<u8>, records: usize) -> Result<(), NoMemory>
     print_line_end(out)
 }
 
-fn print_records(
-    out: &mut Vec<u8>,
-    names: &Names,
-    hosts: u16,
-    records: &[Record],
-) -> Result<(), NoMemory>
-    ensures { OnOk result (out.new.items ≡ out.old.items ++ lines_text (records_lines names.now hosts 0 records.now)) }
+fn print_records(out: &mut Vec<u8>, names: &NodeNames, records: &[Record]) -> Result<(), NoMemory>
+    ensures { OnOk result (out.new.items ≡ out.old.items ++ lines_text (records_lines names.now 0 records.now)) }
 {
     'records: for (at, record) in records.iter().enumerate() {
-        print_record(out, names, hosts, at, record)?;
+        print_record(out, names, at, record)?;
     }
     Ok(())
 }
@@ -42,17 +37,12 @@ fn print_last_line(out: &mut Vec<u8>) -> Result<(), NoMemory>
 
 /// All that happened, record by record, in one pass. The names of the `hosts` hosts come first; a name that is not there is
 /// empty.
-pub fn print_trace(
-    alloc: Global,
-    names: &Names,
-    hosts: u16,
-    trace: &Trace,
-) -> Result<Text, NoMemory>
-    ensures { IfOk result (λ text. text ≡ trace_text names.now hosts trace.now) }
+pub fn print_trace(alloc: Global, names: &NodeNames, trace: &Trace) -> Result<Text, NoMemory>
+    ensures { IfOk result (λ text. text ≡ trace_text names.now trace.now) }
 {
     let mut out = Vec::new(alloc);
     print_head(&mut out, trace.len())?;
-    print_records(&mut out, names, hosts, trace.as_slice())?;
+    print_records(&mut out, names, trace.as_slice())?;
     print_last_line(&mut out)?;
     Ok(List::from_vec(out))
 }

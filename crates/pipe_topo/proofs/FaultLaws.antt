@@ -3,11 +3,11 @@ use Rattle.std.proofs.Common.{◌≡◌, ℕ, ◌<◌, ◌≤◌, nat_le, nat_lt
 use Rattle.std.proofs.lemmas.Bool.{le-leb}
 use Rattle.std.proofs.lemmas.Bool.Decides.{leb_tells, nat_tests}
 use Rattle.std.proofs.lemmas.List.{get_or-replicate}
-use Rattle.pipe_base.specs.Graph.{Graph}
-use Rattle.pipe_base.specs.Path.{every_link}
-use Rattle.pipe_base.specs.Reach.{reaches, JoinsAllHosts}
-use Rattle.pipe_paths.proofs.ReachLaws.{AreAlike, reaches_alike}
-use Rattle.pipe_paths.proofs.Turn.{reach_turns}
+use Rattle.pipe_graph.specs.Graph.{Graph}
+use Rattle.pipe_graph.specs.Path.{every_link}
+use Rattle.pipe_graph.specs.Reach.{reaches, JoinsAllHosts}
+use Rattle.pipe_graph.proofs.ReachLaws.{AreAlike, reaches_alike}
+use Rattle.pipe_graph.proofs.Turn.{reach_turns}
 use Rattle.pipe_topo.specs.Fault.{too_many, no_hosts, level_fault, double_fault, idle_fault, shape_fault, is_apart, apart_from, apart_at, apart_fault, fault_of}
 use Rattle.std.specs.Option.{option_or}
 use Rattle.pipe_topo.specs.First.{first_below}

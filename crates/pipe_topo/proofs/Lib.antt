@@ -4,6 +4,7 @@ pub mod FirstLaws
 pub mod LinkLaws
 pub mod MirrorLaws
 pub mod NameLaws
+pub mod NodeNameLaws
 pub mod ReachLaws
 pub mod StarLaws
 pub mod TableLaws

@@ -4,7 +4,7 @@ use Rattle.std.specs.List.{flat_map, range_with_len}
 use Rattle.std.proofs.lemmas.List.Elements.{All-nil, All-cons, All-tail, All-head, All-append, All-map, All-from_get_or}
 use Rattle.std.proofs.lemmas.List.FromFn.{map-range_with_len_more, get_or-range_with_len, length-range_with_len, length-map-range_with_len}
 use Rattle.pipe_base.specs.declared.name.Link.{Link}
-use Rattle.pipe_base.specs.Graph.{IsGraph, no_link}
+use Rattle.pipe_graph.specs.Graph.{IsGraph, no_link}
 use Rattle.pipe_topo.specs.declared.plan.CableEnd.{CableEnd}
 use Rattle.pipe_topo.specs.declared.plan.CableEnd.TheVariants.{Host, Switch}
 use Rattle.pipe_topo.specs.declared.plan.Plan.{Plan}
@@ -118,4 +118,5 @@ plan_is_network plan is = record {
   few_hosts = is.small.few_hosts;
   few_switches = is.small.few_switches;
   few_links = let count = link_count plan.hosts plan.levels plan.cables in omega (arith, count, is.small.few_cables, is.small.few_switches);
+  short = omega arith;
 }

@@ -7,7 +7,7 @@ use Rattle.std.proofs.lemmas.Bool.Decides.{eqb_tells}
 use Rattle.std.proofs.lemmas.List.{get_or_append_left, get_or_at, take_more, get_or_default, get_or-take, map-append, length-map}
 use Rattle.std.proofs.lemmas.List.Folds.{list_any_at, list_any_none}
 use Rattle.std.proofs.lemmas.Slice.Eq.{bytes_eq-Decides}
-use Rattle.pipe_paths.proofs.Tests.{not_from}
+use Rattle.pipe_graph.proofs.Tests.{not_from}
 use Rattle.pipe_topo.specs.Names.{AreNames}
 
 pub list_any-map : {X Y : Type 0} (p : Y → Bool) (f : X → Y) (xs : List X) → list_any p (map f xs) ≡ list_any (λ x. p (f x)) xs
@@ -24,15 +24,15 @@ position-map p f xs =
     let both : length (map f xs) ≡ length xs = simp length-map in
     λ i. cond (nat_lt (at i) (both i)) (Some (at i)) None
 
--- a name that was not among the keys goes last
-pub name_added : (keys longer : List (String Global)) (key : String Global) (name : List ℕ) → string_bytes key ≡ name → list_any (λ k. bytes_eq name (string_bytes k)) keys ≡ false
-    → longer ≡ (if list_any (string_eq key) keys then keys else keys ++ key ∷ []) → map string_bytes longer ≡ map string_bytes keys ++ name ∷ []
-name_added keys longer key name is none more =
-    let new : list_any (string_eq key) keys ≡ false =
-    subst (λ (n : List ℕ). list_any (λ k. bytes_eq n (string_bytes k)) keys ≡ false) (sym is) none in
-    ap (map string_bytes) (more ∙ ap (λ (b : Bool). if b then keys else keys ++ key ∷ []) new)
-    ∙ map-append string_bytes keys (key ∷ [])
-    ∙ ap (λ (n : List ℕ). map string_bytes keys ++ n ∷ []) is
+-- a name that was not among the keys, which are seen as names, goes last
+pub name_added : {K : Type 0} (seen : K → List ℕ) (keys longer : List K) (key : K) (name : List ℕ) → seen key ≡ name → list_any (λ k. bytes_eq name (seen k)) keys ≡ false
+    → longer ≡ (if list_any (λ k. bytes_eq (seen key) (seen k)) keys then keys else keys ++ key ∷ []) → map seen longer ≡ map seen keys ++ name ∷ []
+name_added {K} seen keys longer key name is none more =
+    let new : list_any (λ k. bytes_eq (seen key) (seen k)) keys ≡ false =
+    subst (λ (n : List ℕ). list_any (λ k. bytes_eq n (seen k)) keys ≡ false) (sym is) none in
+    ap (map seen) (more ∙ ap (λ (b : Bool). if b then keys else keys ++ key ∷ []) new)
+    ∙ map-append seen keys (key ∷ [])
+    ∙ ap (λ (n : List ℕ). map seen keys ++ n ∷ []) is
 
 pub names_more : (names : List (List ℕ)) (name : List ℕ) → AreNames names → list_any (bytes_eq name) names ≡ false → length names < 65535 → AreNames (names ++ name ∷ [])
 names_more names name are none few =

@@ -5,12 +5,12 @@ use Rattle.std.proofs.lemmas.Bool.{eqb-true, eq-eqb, ltb-true, lt-ltb}
 use Rattle.std.proofs.lemmas.List.Elements.{filter_passes}
 use Rattle.std.proofs.lemmas.List.Folds.{Any-from_list_any, list_any_at}
 use Rattle.pipe_base.specs.declared.name.LinkId.{LinkId}
-use Rattle.pipe_base.specs.Graph.{Graph, IsGraph, tail_of, head_of, link_id, all_links, outs_of}
-use Rattle.pipe_base.specs.Reach.{reaches, leads_within}
-use Rattle.pipe_paths.proofs.Listed.{listed_below, listed_contains}
-use Rattle.pipe_paths.proofs.ReachLaws.{goes_on_gives, within_leads}
-use Rattle.pipe_paths.proofs.Rounds.{is_reach}
-use Rattle.pipe_paths.proofs.Tests.{and_parts, and_both, same_tests}
+use Rattle.pipe_graph.specs.Graph.{Graph, IsGraph, tail_of, head_of, link_id, all_links, outs_of}
+use Rattle.pipe_graph.specs.Reach.{reaches, leads_within}
+use Rattle.pipe_graph.proofs.Listed.{listed_below, listed_contains}
+use Rattle.pipe_graph.proofs.ReachLaws.{goes_on_gives, within_leads}
+use Rattle.pipe_graph.proofs.Rounds.{is_reach}
+use Rattle.pipe_graph.proofs.Tests.{and_parts, and_both, same_tests}
 use Rattle.pipe_topo.specs.Walk.{far, away_of, IsDistances, leads_near}
 
 -- a link that is listed out of a node, and passes the test

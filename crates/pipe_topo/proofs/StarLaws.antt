@@ -8,10 +8,10 @@ use Rattle.std.proofs.lemmas.List.FromFn.{get_or-map-range_with_len, length-map-
 use Rattle.std.proofs.lemmas.List.Sums.{position_or_len_is}
 use Rattle.pipe_base.specs.declared.name.Link.{Link}
 use Rattle.pipe_base.specs.declared.name.Ts.{Ts}
-use Rattle.pipe_base.specs.Graph.{Graph, head_of, no_link}
-use Rattle.pipe_base.specs.Path.{every_link, IsPath}
-use Rattle.pipe_base.specs.Reach.{JoinsAllHosts}
-use Rattle.pipe_paths.proofs.Rounds.{is_reach}
+use Rattle.pipe_graph.specs.Graph.{Graph, head_of, no_link}
+use Rattle.pipe_graph.specs.Path.{every_link, IsPath}
+use Rattle.pipe_graph.specs.Reach.{JoinsAllHosts}
+use Rattle.pipe_graph.proofs.Rounds.{is_reach}
 use Rattle.pipe_topo.specs.declared.fault.TopoFault.{TopoFault}
 use Rattle.pipe_topo.specs.declared.fault.TopoFault.TheVariants.{DoubleCable}
 use Rattle.pipe_topo.specs.declared.plan.CableEnd.{CableEnd}

@@ -6,13 +6,14 @@ use Rattle.std.proofs.lemmas.List.{append-nil, get_or_default}
 use Rattle.std.proofs.lemmas.List.FromFn.{filter_of_map_range_with_len_more}
 use Rattle.pipe_base.specs.declared.name.Link.{Link}
 use Rattle.pipe_base.specs.declared.name.LinkId.{LinkId}
-use Rattle.pipe_base.specs.Graph.{Graph, tail_of, head_of, link_id, no_link}
+use Rattle.pipe_graph.specs.Graph.{Graph, tail_of, head_of, link_id, no_link}
 use Rattle.pipe_topo.specs.declared.plan.CableEnd.{CableEnd}
 use Rattle.pipe_topo.specs.declared.plan.Plan.{Plan}
-use Rattle.pipe_topo.specs.Plan.{plan_links, IsPlan}
-use Rattle.pipe_paths.proofs.Listed.{listed_below}
+use Rattle.pipe_topo.specs.Plan.{plan_links, IsPlan, network_of}
+use Rattle.pipe_graph.proofs.Listed.{listed_below}
 use Rattle.pipe_topo.proofs.LinkLaws.{plan_is_network}
 use Rattle.pipe_topo.specs.Tables.{IsListed, IsTable, HasTables, IsNetwork, head_at, tail_at}
+use Rattle.pipe_base.specs.Limits.{last_stamp}
 
 -- one more link, put last in the list of its end
 pub listed_more : (end : ℕ → ℕ) (nodes count node : ℕ) (table : List (List LinkId)) → IsListed end nodes count table → node < nodes → end count ≡ node
@@ -58,11 +59,11 @@ module _ (plan : Plan) (is : IsPlan plan) (levels : List ℕ) (cables : List (Ca
   made_links = links_are ∙ (λ i. plan_links plan.hosts (levels_are i) (cables_are i))
 
   abbrev pub made : Graph
-  made = record { hosts = plan.hosts; nodes = plan.hosts + 2 * length levels; links = links; patience = plan.patience.0 }
+  made = network_of plan.hosts (length levels) links plan.patience (record { 0 = last_stamp })
 
   made_network : IsNetwork made (length levels)
   made_network =
-      subst (λ (p : List ℕ × List Link). IsNetwork (record { hosts = plan.hosts; nodes = plan.hosts + 2 * length p.0; links = p.1; patience = plan.patience.0 }) (length p.0))
+      subst (λ (p : List ℕ × List Link). IsNetwork (network_of plan.hosts (length p.0) p.1 plan.patience (record { 0 = last_stamp })) (length p.0))
       (λ i. (sym levels_are i, sym made_links i)) (plan_is_network plan is)
 
   pub made_few : length listed ≤ 65535

@@ -7,10 +7,10 @@ use Rattle.std.proofs.lemmas.List.{get_or_past, get_or-replicate, length-replica
 use Rattle.std.proofs.lemmas.List.Elements.{All-nil, All-cons, All-push, All-tail, All-more, All-weaker, filter_passes, Contains-push_cases, Contains-append_left, Contains-append_cases, Contains-push}
 use Rattle.pipe_base.specs.declared.name.NodeId.{NodeId}
 use Rattle.pipe_base.specs.declared.name.LinkId.{LinkId}
-use Rattle.pipe_base.specs.Graph.{Graph, IsGraph, tail_of, head_of, is_half, link_id, all_links, ins_of}
-use Rattle.pipe_base.specs.Path.{Leads}
-use Rattle.pipe_paths.proofs.Listed.{listed_all}
-use Rattle.pipe_paths.proofs.Tests.{and_parts, and_both}
+use Rattle.pipe_graph.specs.Graph.{Graph, IsGraph, tail_of, head_of, is_half, link_id, all_links, ins_of}
+use Rattle.pipe_graph.specs.Path.{Leads}
+use Rattle.pipe_graph.proofs.Listed.{listed_all}
+use Rattle.pipe_graph.proofs.Tests.{and_parts, and_both}
 use Rattle.pipe_topo.specs.Walk.{far, away_of, IsDistances, IsWalk, node_id, comes_nearer, LooksAlong}
 
 -- an entry after a write

@@ -2,9 +2,9 @@
 use Rattle.std.specs.Prelude.{ℕ, ◌==◌, nat_lt, nat_le, ◌&&◌, ◌||◌, not, if◌then◌else◌, Bool, true, false, List, length, take, position, slice_index_or, Option, None, Some, is_some, option_map}
 use Rattle.std.specs.List.{list_any}
 use Rattle.std.specs.Option.{option_or}
-use Rattle.pipe_base.specs.Graph.{Graph}
-use Rattle.pipe_base.specs.Path.{every_link}
-use Rattle.pipe_base.specs.Reach.{reaches}
+use Rattle.pipe_graph.specs.Graph.{Graph}
+use Rattle.pipe_graph.specs.Path.{every_link}
+use Rattle.pipe_graph.specs.Reach.{reaches}
 use Rattle.pipe_topo.specs.declared.fault.TopoFault.{TopoFault}
 use Rattle.pipe_topo.specs.declared.fault.TopoFault.TheVariants.{NoHost, TooMany, Level, DoubleCable, Idle, Apart}
 use Rattle.pipe_topo.specs.declared.fault.What.{What}
@@ -14,6 +14,7 @@ use Rattle.pipe_topo.specs.declared.plan.CableEnd.TheVariants.{Host, Switch}
 use Rattle.pipe_topo.specs.declared.plan.Plan.{Plan}
 use Rattle.pipe_topo.specs.First.{first_below}
 use Rattle.pipe_topo.specs.Plan.{level_of, lower_first, graph_of}
+use Rattle.pipe_base.specs.Limits.{most_hosts, most_switches, most_cables}
 
 -- the plan has no host
 abbrev pub no_hosts : ℕ → Option TopoFault
@@ -75,9 +76,9 @@ idle_fault levels cables = option_map (λ s. Idle s) (first_below (is_idle level
 abbrev pub shape_fault : ℕ → List ℕ → List (CableEnd × CableEnd) → Option TopoFault
 shape_fault hosts levels cables =
     option_or (no_hosts hosts)
-    (option_or (too_many Hosts 64 hosts)
-    (option_or (too_many Switches 64 (length levels))
-    (option_or (too_many Cables 512 (length cables))
+    (option_or (too_many Hosts most_hosts hosts)
+    (option_or (too_many Switches most_switches (length levels))
+    (option_or (too_many Cables most_cables (length cables))
     (option_or (level_fault levels cables)
     (option_or (double_fault cables)
     (idle_fault levels cables))))))

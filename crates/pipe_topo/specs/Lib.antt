@@ -2,6 +2,7 @@ pub mod Digits
 pub mod Fault
 pub mod First
 pub mod Names
+pub mod NodeNames
 pub mod Plan
 pub mod Reports
 pub mod Sets

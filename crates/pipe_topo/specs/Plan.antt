@@ -2,10 +2,12 @@
 use Rattle.std.specs.Prelude.{ℕ, ◌+◌, ◌*◌, ◌<◌, ◌≤◌, nat_lt, if◌then◌else◌, Bool, true, false, List, [], ◌∷◌, ◌++◌, length, map, slice_index_or, All}
 use Rattle.std.specs.List.{flat_map, range_with_len}
 use Rattle.pipe_base.specs.declared.name.Link.{Link}
-use Rattle.pipe_base.specs.Graph.{Graph}
+use Rattle.pipe_base.specs.declared.name.Ts.{Ts}
+use Rattle.pipe_graph.specs.Graph.{Graph}
 use Rattle.pipe_topo.specs.declared.plan.CableEnd.{CableEnd}
 use Rattle.pipe_topo.specs.declared.plan.CableEnd.TheVariants.{Host, Switch}
 use Rattle.pipe_topo.specs.declared.plan.Plan.{Plan}
+use Rattle.pipe_base.specs.Limits.{most_hosts, most_switches, most_cables, last_stamp}
 
 -- the node of a cable's end for what goes up the cable: the host, or the up half of the switch
 abbrev pub up_node : ℕ → CableEnd → ℕ
@@ -37,7 +39,8 @@ joined tail head = record { tail = record { 0 = tail }; head = record { 0 = head
 
 -- the two links of a cable, given with its lower end first: the one that goes up, and the one that goes down
 abbrev pub links_between : ℕ → CableEnd × CableEnd → List Link
-links_between hosts cable = joined (up_node hosts cable.0) (up_node hosts cable.1) ∷ joined (down_node hosts cable.1) (down_node hosts cable.0) ∷ []
+links_between hosts cable =
+    joined (up_node hosts cable.0) (up_node hosts cable.1) ∷ joined (down_node hosts cable.1) (down_node hosts cable.0) ∷ []
 
 -- the two links of a cable, whichever end is given first
 abbrev pub cable_links : ℕ → List ℕ → CableEnd × CableEnd → List Link
@@ -49,16 +52,24 @@ loop_of hosts switch = joined (up_node hosts (Switch switch)) (down_node hosts (
 
 -- the links in their order: those of each cable, then each switch's loop
 abbrev pub plan_links : ℕ → List ℕ → List (CableEnd × CableEnd) → List Link
-plan_links hosts levels cables = flat_map (cable_links hosts levels) cables ++ map (loop_of hosts) (range_with_len 0 (length levels))
+plan_links hosts levels cables =
+    flat_map (cable_links hosts levels) cables ++ map (loop_of hosts) (range_with_len 0 (length levels))
 
--- the graph of a plan: its hosts, two halves for each switch, and its links in their order
-abbrev pub graph_of : Plan → Graph
-graph_of plan = record {
-  hosts = plan.hosts;
-  nodes = plan.hosts + 2 * length plan.levels;
-  links = plan_links plan.hosts plan.levels plan.cables;
-  patience = plan.patience.0;
+-- the graph of a network: its hosts, two halves for each switch, and its links in their order
+abbrev pub network_of : ℕ → ℕ → List Link → Ts → Ts → Graph
+network_of hosts switches links patience top = record {
+  hosts = hosts;
+  nodes = hosts + 2 * switches;
+  links = links;
+  patience = patience.0;
+  top = top.0;
+  spares = [];
 }
+
+-- the graph of a plan, in which clocks have 48 bits
+abbrev pub graph_of : Plan → Graph
+graph_of plan =
+    network_of plan.hosts (length plan.levels) (plan_links plan.hosts plan.levels plan.cables) plan.patience (record { 0 = last_stamp })
 
 -- the end is a host or a switch of the plan
 abbrev pub IsEnd : ℕ → ℕ → CableEnd → Type 0
@@ -71,9 +82,9 @@ HasEnds hosts switches cables = All (λ c. IsEnd hosts switches c.0 × IsEnd hos
 
 -- the plan is within the limits
 pub record IsSmall (hosts switches cables : ℕ) : Type 0 where
-  pub few_hosts : hosts ≤ 64
-  pub few_switches : switches ≤ 64
-  pub few_cables : cables ≤ 512
+  pub few_hosts : hosts ≤ most_hosts
+  pub few_switches : switches ≤ most_switches
+  pub few_cables : cables ≤ most_cables
 
 -- a plan within the limits, whose cables join what the plan has
 pub record IsPlan (plan : Plan) : Type 0 where

@@ -3,17 +3,20 @@ use Rattle.std.specs.Prelude.{◌≡◌, ℕ, ◌+◌, ◌*◌, ◌<◌, ◌≤�
 use Rattle.std.specs.List.{range_with_len}
 use Rattle.pipe_base.specs.declared.name.LinkId.{LinkId}
 use Rattle.pipe_base.specs.declared.name.Link.{Link}
-use Rattle.pipe_base.specs.Graph.{Graph, IsGraph, ins_of, outs_of, link_id, no_link}
+use Rattle.pipe_graph.specs.Graph.{Graph, IsGraph, ins_of, outs_of, link_id, no_link}
 use Rattle.pipe_topo.specs.declared.plan.CableEnd.{CableEnd}
 use Rattle.pipe_topo.specs.declared.plan.CableEnd.TheVariants.{Host, Switch}
+use Rattle.pipe_base.specs.Limits.{most_hosts, most_switches, most_links, last_stamp}
 
--- A graph within the limits of networks: 64 hosts, 64 switches with two halves and a loop each, and 512 cables with two links each.
+-- A graph within the limits of networks: 64 hosts, 64 switches with two halves and a loop each, and 512 cables with two links
+-- each; and within those of clocks.
 pub record IsNetwork (graph : Graph) (switches : ℕ) : Type 0 where
   pub is_graph : IsGraph graph
   pub halves : graph.nodes ≡ graph.hosts + 2 * switches
-  pub few_hosts : graph.hosts ≤ 64
-  pub few_switches : switches ≤ 64
-  pub few_links : length graph.links ≤ 1088
+  pub few_hosts : graph.hosts ≤ most_hosts
+  pub few_switches : switches ≤ most_switches
+  pub few_links : length graph.links ≤ most_links
+  pub short : graph.top ≤ last_stamp
 
 -- for each node the list has the node's links, and these are of the graph
 pub record IsTable (graph : Graph) (links_of : ℕ → List LinkId) (table : List (List LinkId)) : Type 0 where
@@ -38,9 +41,10 @@ head_at links l = (slice_index_or links l no_link).head.0
 -- the table has, for each node, those of the first so many links whose end is the node
 pub record IsListed (end : ℕ → ℕ) (nodes count : ℕ) (table : List (List LinkId)) : Type 0 where
   pub size : length table ≡ nodes
-  pub lists : (node : ℕ) → node < nodes → slice_index_or table node [] ≡ filter (λ l. end l.0 == node) (map link_id (range_with_len 0 count))
+  pub lists : (node : ℕ) → node < nodes
+      → slice_index_or table node [] ≡ filter (λ l. end l.0 == node) (map link_id (range_with_len 0 count))
 
 -- the end is a host, or a switch below the limit
 abbrev pub IsSmallEnd : CableEnd → Type 0
 IsSmallEnd (Host h) = Unit {0}
-IsSmallEnd (Switch s) = s < 64
+IsSmallEnd (Switch s) = s < most_switches

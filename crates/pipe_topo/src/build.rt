@@ -1,6 +1,6 @@
 // From a plan to a topology, or to the first fault of the plan.
 ghost use Rattle.std.specs.Prelude.{◌≡◌, ◌≢◌, ◌<◌, ◌^◌, length, None, Some, IfErr, IfOk};
-ghost use Rattle.pipe_base.specs.Reach.{JoinsAllHosts};
+ghost use Rattle.pipe_graph.specs.Reach.{JoinsAllHosts};
 ghost use Rattle.pipe_topo.specs.Fault.{fault_of};
 ghost use Rattle.pipe_topo.specs.Plan.{HasEnds, IsPlan, graph_of};
 

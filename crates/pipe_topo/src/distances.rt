@@ -1,8 +1,9 @@
 // How far each node is from one node.
 ghost use Rattle.std.specs.Prelude.{◌≡◌, ◌<◌, ◌≤◌, length, IfOk};
-ghost use Rattle.pipe_base.specs.Graph.{IsGraph};
+ghost use Rattle.pipe_graph.specs.Graph.{IsGraph};
 ghost use Rattle.pipe_topo.specs.Sets.{has};
 ghost use Rattle.pipe_topo.specs.Walk.{IsDistances, away_of};
+ghost use Rattle.pipe_base.specs.Limits.{most_nodes};
 
 use crate::walk::{entry, walk_back};
 use crate::{LinkSet, Topology};
@@ -38,7 +39,7 @@ impl Distances {
         requires links { length by.now ≡ length topology.now.links }
         ensures right { IfOk result (λ away. IsDistances topology.now (has by.now) to.0 away) }
         ensures graph { IsGraph topology.now }
-        ensures few { topology.now.nodes ≤ 192 }
+        ensures few { topology.now.nodes ≤ most_nodes }
     {
         Ok(Distances {
             away: walk_back(alloc, &topology.wiring, to, by)?,

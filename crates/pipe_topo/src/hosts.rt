@@ -1,6 +1,7 @@
 // A set of hosts.
 ghost use Rattle.std.specs.Prelude.{◌≡◌, ◌-◌, ◌<◌, ◌≤◌, ◌++◌, Bool, List, length, replicate, slice_set, true, false};
 ghost use Rattle.pipe_topo.specs.Sets.{has};
+ghost use Rattle.pipe_base.specs.Limits.{most_hosts};
 
 use pipe_base::{HostId, NodeId};
 use std::marker::Model;
@@ -36,7 +37,7 @@ impl HostSet {
 
     /// The hosts below `hosts`.
     pub fn first(hosts: u16) -> HostSet
-        requires { hosts ≤ 64 }
+        requires { hosts ≤ most_hosts }
         ensures { result ≡ replicate hosts true ++ replicate (64 - hosts) false }
     {
         if hosts == 64 {
@@ -49,21 +50,21 @@ impl HostSet {
     }
 
     pub fn insert(&mut self, host: HostId)
-        requires { host.0 < 64 }
+        requires { host.0 < most_hosts }
         ensures { self.new ≡ slice_set self.old host.0 true }
     {
         self.bits |= 1 << host.0;
     }
 
     pub fn remove(&mut self, host: HostId)
-        requires { host.0 < 64 }
+        requires { host.0 < most_hosts }
         ensures { self.new ≡ slice_set self.old host.0 false }
     {
         self.bits &= !(1 << host.0);
     }
 
     pub fn has(&self, host: HostId) -> bool
-        requires { host.0 < 64 }
+        requires { host.0 < most_hosts }
         ensures { result ≡ has self.now host.0 }
     {
         self.bits & (1 << host.0) != 0

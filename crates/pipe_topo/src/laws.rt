@@ -1,13 +1,14 @@
 // What every plan's graph has. Each law is a function that does nothing and ensures it.
 ghost use Rattle.std.specs.Prelude.{◌≡◌, ℕ, ◌≤◌, length, None};
 ghost use Rattle.pipe_base.specs.declared.name.Ts.{Ts};
-ghost use Rattle.pipe_base.specs.Graph.{IsGraph};
-ghost use Rattle.pipe_base.specs.Reach.{JoinsAllHosts};
-ghost use Rattle.pipe_paths.specs.Mirror.{IsMirrored};
+ghost use Rattle.pipe_graph.specs.Graph.{IsGraph};
+ghost use Rattle.pipe_graph.specs.Reach.{JoinsAllHosts};
+ghost use Rattle.pipe_graph.specs.Mirror.{IsMirrored};
 ghost use Rattle.pipe_topo.specs.Fault.{fault_of};
 ghost use Rattle.pipe_topo.specs.Plan.{IsPlan, IsSmall, graph_of};
 ghost use Rattle.pipe_topo.specs.Star.{star_plan};
 ghost use Rattle.pipe_topo.specs.declared.plan.Plan.{Plan};
+ghost use Rattle.pipe_base.specs.Limits.{most_hosts};
 
 /// A plan without a fault joins any two hosts both ways, and each host with itself.
 pub fn no_fault_joins_all()
@@ -27,5 +28,6 @@ pub fn plans_are_mirrored()
 
 /// The plan of a star of 1 to 64 hosts has no fault.
 pub fn stars_have_no_fault()
-    ensures { (hosts : ℕ) (patience : Ts) → 1 ≤ hosts → hosts ≤ 64 → fault_of (star_plan hosts patience) ≡ None }
+    ensures { (hosts : ℕ) (patience : Ts) → 1 ≤ hosts → hosts ≤ most_hosts
+        → fault_of (star_plan hosts patience) ≡ None }
 {}

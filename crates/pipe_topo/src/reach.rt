@@ -1,8 +1,8 @@
 // Which node reaches which, and which hosts feed a link.
 ghost use Rattle.std.specs.Prelude.{◌≡◌, ◌<◌, length, IfOk};
 ghost use Rattle.std.specs.List.{list_any};
-ghost use Rattle.pipe_base.specs.Graph.{outs_of};
-ghost use Rattle.pipe_base.specs.Reach.{feeds, reaches};
+ghost use Rattle.pipe_graph.specs.Graph.{outs_of};
+ghost use Rattle.pipe_graph.specs.Reach.{feeds, reaches};
 ghost use Rattle.pipe_topo.specs.Sets.{has};
 ghost use Rattle.pipe_topo.specs.Walk.{leads_near};
 

@@ -4,6 +4,7 @@ ghost use Rattle.std.specs.List.{list_any};
 ghost use Rattle.pipe_topo.specs.Fault.{double_fault, idle_fault, is_idle, is_level, leads_down, level_fault, repeats, same_end, same_ends, shape_fault, too_many};
 ghost use Rattle.pipe_topo.specs.First.{first_below};
 ghost use Rattle.pipe_topo.specs.Plan.{IsSmall, level_of, lower_first, rises};
+ghost use Rattle.pipe_base.specs.Limits.{most_switches};
 
 use crate::{Cable, CableEnd, TopoFault, What};
 
@@ -127,7 +128,7 @@ fn same_end(a: CableEnd, b: CableEnd) -> bool
 }
 
 fn idle_fault(levels: &[u8], cables: &[Cable]) -> Option<TopoFault>
-    requires { length levels.now ≤ 64 }
+    requires { length levels.now ≤ most_switches }
     ensures { result ≡ idle_fault levels.now cables.now }
 {
     let switch = first_idle(levels, cables)?;
@@ -136,7 +137,7 @@ fn idle_fault(levels: &[u8], cables: &[Cable]) -> Option<TopoFault>
 
 #[tactic(auto, using(crate::proofs::FirstLaws::first_at, crate::proofs::FirstLaws::first_more))]
 fn first_idle(levels: &[u8], cables: &[Cable]) -> Option<u16>
-    requires { length levels.now ≤ 64 }
+    requires { length levels.now ≤ most_switches }
     ensures { result ≡ first_below (is_idle levels.now cables.now) (length levels.now) }
 {
     let switches = levels.len() as u16;

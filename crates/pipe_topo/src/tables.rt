@@ -2,11 +2,12 @@
 ghost use Rattle.std.specs.Prelude.{◌≡◌, ℕ, ◌+◌, ◌*◌, ◌<◌, ◌≤◌, [], ◌∷◌, ◌++◌, length, replicate, slice_index_or, slice_set, All, IfOk, OnOk};
 ghost use Rattle.pipe_topo.specs.Plan.{HasEnds, IsEnd, IsPlan, down_node, graph_of, links_between, loop_of, plan_links, up_node};
 ghost use Rattle.pipe_topo.specs.Tables.{IsListed, IsSmallEnd, head_at, tail_at};
+ghost use Rattle.pipe_base.specs.Limits.{most_hosts, most_switches};
 
 use crate::shape::lower_first;
 use crate::wiring::Wiring;
 use crate::{Cable, CableEnd, Plan};
-use pipe_base::{Link, LinkId, List, NoMemory, NodeId};
+use pipe_base::{LAST_STAMP, Link, LinkId, List, NoMemory, NodeId, Ts};
 use std::alloc::Global;
 
 // The wiring of a plan without a fault in its shape.
@@ -28,6 +29,7 @@ pub fn wiring_of(alloc: Global, plan: &Plan) -> Result<Wiring, NoMemory>
         ins,
         outs,
         patience: plan.patience,
+        top: Ts(LAST_STAMP),
     })
 }
 
@@ -37,8 +39,8 @@ fn links_of(
     levels: &[u8],
     cables: &[Cable],
 ) -> Result<Vec<Link>, NoMemory>
-    requires few_hosts { hosts ≤ 64 }
-    requires few_switches { length levels.now ≤ 64 }
+    requires few_hosts { hosts ≤ most_hosts }
+    requires few_switches { length levels.now ≤ most_switches }
     requires ends { HasEnds hosts (length levels.now) cables.now }
     ensures { IfOk result (λ links. links.items ≡ plan_links hosts levels.now cables.now) }
 {
@@ -55,7 +57,7 @@ fn links_of(
 
 // The two links of a cable that is given with its lower end first.
 fn add_cable(links: &mut Vec<Link>, hosts: u16, cable: Cable) -> Result<(), NoMemory>
-    requires few { hosts ≤ 64 }
+    requires few { hosts ≤ most_hosts }
     requires lower { IsSmallEnd cable.0 }
     requires upper { IsSmallEnd cable.1 }
     ensures { OnOk result (links.new.items ≡ links.old.items ++ links_between hosts cable) }
@@ -73,8 +75,8 @@ fn add_cable(links: &mut Vec<Link>, hosts: u16, cable: Cable) -> Result<(), NoMe
 }
 
 fn loop_of(hosts: u16, switch: u16) -> Link
-    requires few { hosts ≤ 64 }
-    requires small { switch < 64 }
+    requires few { hosts ≤ most_hosts }
+    requires small { switch < most_switches }
     ensures { result ≡ loop_of hosts switch }
 {
     let end = CableEnd::Switch(switch);
@@ -85,7 +87,7 @@ fn loop_of(hosts: u16, switch: u16) -> Link
 }
 
 fn up_node(hosts: u16, end: CableEnd) -> NodeId
-    requires few { hosts ≤ 64 }
+    requires few { hosts ≤ most_hosts }
     requires small { IsSmallEnd end }
     ensures { result.0 ≡ up_node hosts end }
 {
@@ -96,7 +98,7 @@ fn up_node(hosts: u16, end: CableEnd) -> NodeId
 }
 
 fn down_node(hosts: u16, end: CableEnd) -> NodeId
-    requires few { hosts ≤ 64 }
+    requires few { hosts ≤ most_hosts }
     requires small { IsSmallEnd end }
     ensures { result.0 ≡ down_node hosts end }
 {

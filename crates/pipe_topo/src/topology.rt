@@ -1,7 +1,8 @@
 // A network as a graph: nodes, and links with a tail and a head each.
 ghost use Rattle.std.specs.Prelude.{◌≡◌, ℕ, ◌+◌, ◌*◌, ◌<◌, ◌≤◌, length, All, IfOk};
-ghost use Rattle.pipe_base.specs.Graph.{Graph, IsGraph, head_of, ins_of, is_half, is_host, outs_of, tail_of};
-ghost use Rattle.pipe_base.specs.Reach.{JoinsAllHosts};
+ghost use Rattle.pipe_graph.specs.Graph.{Graph, IsGraph, head_of, ins_of, is_half, is_host, outs_of, tail_of};
+ghost use Rattle.pipe_graph.specs.Reach.{JoinsAllHosts};
+ghost use Rattle.pipe_base.specs.Limits.{most_hosts, most_switches, most_nodes, most_links, last_stamp};
 
 use crate::wiring::Wiring;
 use pipe_base::{Link, LinkId, NoMemory, NodeId, Ts};
@@ -16,8 +17,8 @@ pub struct Topology {
 }
 
 impl Model for Topology {
-    ghost use Rattle.pipe_base.specs.Graph.{Graph};
-    ghost use Rattle.pipe_base.specs.Reach.{JoinsAllHosts};
+    ghost use Rattle.pipe_graph.specs.Graph.{Graph};
+    ghost use Rattle.pipe_graph.specs.Reach.{JoinsAllHosts};
 
     ghost Value = { Graph };
 
@@ -29,7 +30,7 @@ impl Model for Topology {
 impl Topology {
     pub fn hosts(&self) -> u16
         ensures value { result ≡ self.now.hosts }
-        ensures few { result ≤ 64 }
+        ensures few { result ≤ most_hosts }
         ensures are_nodes { result ≤ self.now.nodes }
         ensures joined { JoinsAllHosts self.now }
     {
@@ -38,14 +39,14 @@ impl Topology {
 
     pub fn switches(&self) -> u16
         ensures value { self.now.nodes ≡ self.now.hosts + 2 * result }
-        ensures few { result ≤ 64 }
+        ensures few { result ≤ most_switches }
     {
         self.wiring.switches()
     }
 
     pub fn nodes(&self) -> u16
         ensures value { result ≡ self.now.nodes }
-        ensures few { result ≤ 192 }
+        ensures few { result ≤ most_nodes }
         ensures graph { IsGraph self.now }
     {
         self.wiring.nodes()
@@ -53,7 +54,7 @@ impl Topology {
 
     pub fn links(&self) -> u16
         ensures value { result ≡ length self.now.links }
-        ensures few { result ≤ 1088 }
+        ensures few { result ≤ most_links }
     {
         self.wiring.links()
     }
@@ -105,6 +106,14 @@ impl Topology {
         ensures { result.0 ≡ self.now.patience }
     {
         self.wiring.patience()
+    }
+
+    /// The last reading of a clock, and the last stamp. A barrier or a next timestamp may be one more.
+    pub fn top(&self) -> Ts
+        ensures value { result.0 ≡ self.now.top }
+        ensures short { result.0 ≤ last_stamp }
+    {
+        self.wiring.top()
     }
 
     pub fn is_host(&self, node: NodeId) -> bool

@@ -1,8 +1,9 @@
 // A walk backwards from a node, breadth first: how many links lead on to it from each node.
 ghost use Rattle.std.specs.Prelude.{◌≡◌, ℕ, ◌+◌, ◌<◌, ◌≤◌, ◌∷◌, length, min, sum, IfOk, OnOk};
-ghost use Rattle.pipe_base.specs.Graph.{IsGraph};
+ghost use Rattle.pipe_graph.specs.Graph.{IsGraph};
 ghost use Rattle.pipe_topo.specs.Sets.{has};
 ghost use Rattle.pipe_topo.specs.Walk.{IsDistances, IsWalk, LooksAlong, away_of, far};
+ghost use Rattle.pipe_base.specs.Limits.{most_nodes};
 
 use crate::wiring::Wiring;
 use crate::{FAR, LinkSet};
@@ -21,7 +22,7 @@ pub fn walk_back(
     requires links { length by.now ≡ length wiring.now.links }
     ensures right { IfOk result (λ away. IsDistances wiring.now (has by.now) to.0 away.items) }
     ensures graph { IsGraph wiring.now }
-    ensures few { wiring.now.nodes ≤ 192 }
+    ensures few { wiring.now.nodes ≤ most_nodes }
 {
     let mut away = vec![in alloc; FAR; usize::from(wiring.nodes())]?;
     away[usize::from(to.0)] = 0;
@@ -45,7 +46,8 @@ fn look_back(
     requires node { node.0 < wiring.now.nodes }
     requires links { length by.now ≡ length wiring.now.links }
     requires size { length away.old ≡ wiring.now.nodes }
-    ensures walk { OnOk result ((to : ℕ) → IsWalk wiring.now (has by.now) to away.old (node ∷ queue.old.items) → IsWalk wiring.now (has by.now) to away.new queue.new.items) }
+    ensures walk { OnOk result ((to : ℕ) → IsWalk wiring.now (has by.now) to away.old (node ∷ queue.old.items)
+        → IsWalk wiring.now (has by.now) to away.new queue.new.items) }
     ensures work { OnOk result (sum away.new + length queue.new.items ≤ sum away.old + length queue.old.items) }
 {
     let next = entry(away, node).saturating_add(1);

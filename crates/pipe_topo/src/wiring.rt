@@ -1,6 +1,7 @@
 // The links of a network and its tables of the links at each node, before it is known who reaches whom.
 ghost use Rattle.std.specs.Prelude.{◌≡◌, ℕ, ◌+◌, ◌*◌, ◌<◌, ◌≤◌, length, All, IfOk};
-ghost use Rattle.pipe_base.specs.Graph.{Graph, IsGraph, head_of, ins_of, is_half, outs_of, tail_of};
+ghost use Rattle.pipe_graph.specs.Graph.{Graph, IsGraph, head_of, ins_of, is_half, outs_of, tail_of};
+ghost use Rattle.pipe_base.specs.Limits.{most_hosts, most_switches, most_nodes, most_links, last_stamp};
 
 use pipe_base::{Link, LinkId, List, NoMemory, NodeId, Ts};
 use std::marker::Model;
@@ -14,24 +15,25 @@ pub struct Wiring {
     pub(crate) ins: Vec<List<LinkId>>,
     pub(crate) outs: Vec<List<LinkId>>,
     pub(crate) patience: Ts,
+    pub(crate) top: Ts,
 }
 
 impl Model for Wiring {
-    ghost use Rattle.std.specs.Prelude.{◌+◌, ◌*◌};
-    ghost use Rattle.pipe_base.specs.Graph.{Graph};
+    ghost use Rattle.pipe_graph.specs.Graph.{Graph};
+    ghost use Rattle.pipe_topo.specs.Plan.{network_of};
     ghost use Rattle.pipe_topo.specs.Tables.{HasTables};
 
     ghost Value = { Graph };
 
-    ghost view = { λ t. record { hosts = t.hosts; nodes = t.hosts + 2 * t.switches; links = t.links.items; patience = t.patience.0 } };
+    ghost view = { λ t. network_of t.hosts t.switches t.links.items t.patience t.top };
 
-    ghost invariant = { λ t. HasTables (record { hosts = t.hosts; nodes = t.hosts + 2 * t.switches; links = t.links.items; patience = t.patience.0 }) t.switches t.ins.items t.outs.items };
+    ghost invariant = { λ t. HasTables (network_of t.hosts t.switches t.links.items t.patience t.top) t.switches t.ins.items t.outs.items };
 }
 
 impl Wiring {
     pub fn hosts(&self) -> u16
         ensures value { result ≡ self.now.hosts }
-        ensures few { result ≤ 64 }
+        ensures few { result ≤ most_hosts }
         ensures are_nodes { result ≤ self.now.nodes }
     {
         self.hosts
@@ -39,14 +41,14 @@ impl Wiring {
 
     pub fn switches(&self) -> u16
         ensures value { self.now.nodes ≡ self.now.hosts + 2 * result }
-        ensures few { result ≤ 64 }
+        ensures few { result ≤ most_switches }
     {
         self.switches
     }
 
     pub fn nodes(&self) -> u16
         ensures value { result ≡ self.now.nodes }
-        ensures few { result ≤ 192 }
+        ensures few { result ≤ most_nodes }
         ensures graph { IsGraph self.now }
     {
         self.hosts + 2 * self.switches
@@ -54,7 +56,7 @@ impl Wiring {
 
     pub fn links(&self) -> u16
         ensures value { result ≡ length self.now.links }
-        ensures few { result ≤ 1088 }
+        ensures few { result ≤ most_links }
     {
         self.links.len() as u16
     }
@@ -101,6 +103,13 @@ impl Wiring {
         ensures { result.0 ≡ self.now.patience }
     {
         self.patience
+    }
+
+    pub fn top(&self) -> Ts
+        ensures value { result.0 ≡ self.now.top }
+        ensures short { result.0 ≤ last_stamp }
+    {
+        self.top
     }
 
     pub fn is_half(&self, node: NodeId) -> bool

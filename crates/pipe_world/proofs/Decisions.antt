@@ -5,7 +5,7 @@ use Rattle.std.proofs.lemmas.List.{length-map}
 use Rattle.std.proofs.lemmas.List.Filters.{length-filter_both}
 use Rattle.std.proofs.lemmas.List.FromFn.{length-map-range_with_len}
 use Rattle.pipe_base.specs.declared.name.HostId.{HostId}
-use Rattle.pipe_base.specs.Graph.{Graph, all_links, link_id}
+use Rattle.pipe_graph.specs.Graph.{Graph, all_links, link_id}
 use Rattle.pipe_base.specs.declared.name.NodeId.{NodeId}
 use Rattle.pipe_control.specs.declared.controller.Controller.{Controller}
 use Rattle.pipe_model.specs.declared.record.Record.{Record}

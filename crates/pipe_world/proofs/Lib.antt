@@ -1,3 +1,4 @@
+pub mod ActsAt
 pub mod Decisions
 pub mod Messages
 pub mod Passing

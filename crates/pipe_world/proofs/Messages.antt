@@ -14,8 +14,8 @@ use Rattle.pipe_base.specs.declared.name.Ts.{Ts}
 use Rattle.pipe_base.specs.declared.packet.Packet.{Packet}
 use Rattle.pipe_base.specs.declared.step.Outcome.{Outcome}
 use Rattle.pipe_base.specs.declared.step.Step.{Step}
-use Rattle.pipe_base.specs.Graph.{Graph, ins_of, IsGraph, all_links, head_of, link_id, is_host}
-use Rattle.pipe_base.specs.ShortestRoute.{not_dropped}
+use Rattle.pipe_graph.specs.Graph.{Graph, ins_of, IsGraph, all_links, head_of, link_id, is_host}
+use Rattle.pipe_graph.specs.Passable.{not_dropped}
 use Rattle.pipe_model.specs.Controller.{nobodys_step, view}
 use Rattle.pipe_model.specs.Decision.{after_decision, all_hosts, freeze, freezes, host_id, is_behind, is_frozen, notice, notices, all_nodes, drop_links, drops, lags, node_id}
 use Rattle.pipe_model.specs.Sender.{sender_calls}

@@ -13,7 +13,7 @@ use Rattle.pipe_base.specs.declared.name.NodeId.{NodeId}
 use Rattle.pipe_base.specs.declared.packet.Packet.{Packet}
 use Rattle.pipe_base.specs.declared.step.Outcome.{Outcome}
 use Rattle.pipe_base.specs.declared.step.Outcome.TheVariants.{Ok, NoItem, Crashed}
-use Rattle.pipe_base.specs.Graph.{Graph, head_of}
+use Rattle.pipe_graph.specs.Graph.{Graph, head_of}
 use Rattle.pipe_model.specs.Controller.{nobodys_step, view}
 use Rattle.pipe_model.specs.View.{View}
 use Rattle.pipe_model.specs.declared.event.Event.{Event}

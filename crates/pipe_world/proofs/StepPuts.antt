@@ -18,12 +18,13 @@ use Rattle.pipe_base.specs.declared.name.Ts.{Ts}
 use Rattle.pipe_base.specs.declared.packet.Packet.{Packet}
 use Rattle.pipe_base.specs.declared.step.Fate.{Fate}
 use Rattle.pipe_base.specs.Fate.{is_holding}
-use Rattle.pipe_base.specs.Graph.{Graph, all_links, head_of, ins_of, is_host, link_id, outs_of, tail_of}
+use Rattle.pipe_graph.specs.Graph.{Graph, all_links, head_of, ins_of, is_host, link_id, outs_of, tail_of}
 use Rattle.pipe_base.specs.Limits.{most_receivers, most_unsettled}
 use Rattle.pipe_base.specs.Packets.{Fields, ack_to, beacon, forwarded, sent_to, recall_ack_to}
 use Rattle.pipe_base.specs.Resends.{resends}
-use Rattle.pipe_base.specs.ShortestRoute.{begins_shortest, firsts_of, in_turn, not_dropped, route}
-use Rattle.pipe_base.specs.Ways.{on_way, routed}
+use Rattle.pipe_graph.specs.ShortestRoute.{begins_shortest, firsts_of, route}
+use Rattle.pipe_graph.specs.Passable.{not_dropped, is_passable}
+use Rattle.pipe_base.specs.Ways.{in_turn, on_way, routed}
 use Rattle.pipe_model.specs.Recalls.{is_recall}
 use Rattle.pipe_model.specs.declared.event.Event.{Event}
 use Rattle.pipe_model.specs.declared.event.Event.TheVariants.{Send, Tick, Take}
@@ -38,7 +39,7 @@ use Rattle.pipe_model.specs.NeverLate.{AreOfGraph}
 use Rattle.pipe_model.specs.Run.{IsNodeHistory, IsNodeStep}
 use Rattle.pipe_model.specs.Sender.{sender_calls}
 use Rattle.pipe_model.proofs.Window.{resends_few}
-use Rattle.pipe_paths.proofs.RouteLaws.{outs_all}
+use Rattle.pipe_graph.proofs.RouteLaws.{outs_all}
 use Rattle.pipe_world.specs.Queues.{AreKnown}
 
 -- ---- few items
@@ -88,20 +89,20 @@ owed_few graph node f own r (Send host service now dests) names again = sent_few
 owed_few graph node f own r (Tick n now) names again =
     either_few (is_host graph node) (resends (sender_calls graph node (r ∷ own)) (record { 0 = node }) f) [] again (omega arith)
 owed_few graph node f own r (Take link place keep) names again =
-    either_few (is_host graph node) (owed_by_host node f r.step.fate (gets graph node own r)) (owed_by_half f (received own r))
-    (answered_few node f r.step.fate (gets graph node own r)) (forwarded_few f (received own r))
+    either_few (is_host graph node) (owed_by_host node f r.step.fate (gets graph node own r)) (owed_by_half f (received graph node own r))
+    (answered_few node f r.step.fate (gets graph node own r)) (forwarded_few f (received graph node own r))
 owed_few graph node f own r _ names again = omega arith
 
 filter_few : (test : LinkId → Bool) (ls : List LinkId) → length (filter test ls) ≤ length ls
 filter_few test ls = omega (arith, length-filter test ls, count_by-le-length test ls)
 
 tick_few : (graph : Graph) (node : ℕ) (dropped : List LinkId) (f : Fields)
-    → length {A = LinkId × Packet} (map (λ (l : LinkId). (l, beacon f)) (filter (λ (l : LinkId). not_dropped dropped l.0) (outs_of graph node))) ≤ length graph.links
+    → length {A = LinkId × Packet} (map (λ (l : LinkId). (l, beacon f)) (filter (λ (l : LinkId). is_passable graph dropped l.0) (outs_of graph node))) ≤ length graph.links
 tick_few graph node dropped f =
     omega (
       arith,
-      length-map {B = LinkId × Packet} (filter (λ (l : LinkId). not_dropped dropped l.0) (outs_of graph node)) (λ (l : LinkId). (l, beacon f)),
-      filter_few (λ (l : LinkId). not_dropped dropped l.0) (outs_of graph node),
+      length-map {B = LinkId × Packet} (filter (λ (l : LinkId). is_passable graph dropped l.0) (outs_of graph node)) (λ (l : LinkId). (l, beacon f)),
+      filter_few (λ (l : LinkId). is_passable graph dropped l.0) (outs_of graph node),
       filter_few (λ (l : LinkId). tail_of graph l.0 == node) (all_links graph),
       length-map-range_with_len link_id 0 (length graph.links),
     )
@@ -183,8 +184,8 @@ outs_known graph node = outs_all graph node (Known graph) (λ l lt begins. lt)
 -- a route goes along a link of the graph
 route_known : (graph : Graph) (dropped : List LinkId) (node src dst : ℕ) → IfSome (route graph dropped node src dst) (Known graph)
 route_known graph dropped node src dst =
-    way_all (is_host graph dst) (Known graph) (firsts_of graph (not_dropped dropped) node dst) (src + dst)
-    (All-filter (λ (l : LinkId). begins_shortest graph (not_dropped dropped) node dst l.0) (Known graph) (outs_of graph node) (outs_known graph node))
+    way_all (is_host graph dst) (Known graph) (firsts_of graph (is_passable graph dropped) node dst) (src + dst)
+    (All-filter (λ (l : LinkId). begins_shortest graph (is_passable graph dropped) node dst l.0) (Known graph) (outs_of graph node) (outs_known graph node))
 
 on_way_known : (graph : Graph) (way : Option LinkId) (p : Packet) (puts : List (LinkId × Packet)) → IfSome way (Known graph) → AreKnown (length graph.links) puts
     → AreKnown (length graph.links) (on_way way p puts)
@@ -199,8 +200,8 @@ routed_known graph dropped node (p ∷ ps) =
 
 beacons_known : (graph : Graph) (node : ℕ) (dropped : List LinkId) (f : Fields) (event : Event) → AreKnown (length graph.links) (beacons_of graph node dropped f event)
 beacons_known graph node dropped f (Tick n now) =
-    All-map (λ (q : LinkId × Packet). q.0.0 < length graph.links) (λ (l : LinkId). (l, beacon f)) (filter (λ (l : LinkId). not_dropped dropped l.0) (outs_of graph node))
-    (All-filter (λ (l : LinkId). not_dropped dropped l.0) (Known graph) (outs_of graph node) (outs_known graph node))
+    All-map (λ (q : LinkId × Packet). q.0.0 < length graph.links) (λ (l : LinkId). (l, beacon f)) (filter (λ (l : LinkId). is_passable graph dropped l.0) (outs_of graph node))
+    (All-filter (λ (l : LinkId). is_passable graph dropped l.0) (Known graph) (outs_of graph node) (outs_known graph node))
 beacons_known graph node dropped f _ = All-nil (λ (q : LinkId × Packet). q.0.0 < length graph.links)
 
 pub puts_known : (graph : Graph) (node : ℕ) (own : List Record) (r : Record) → IsNodeStep graph node own r → AreKnown (length graph.links) r.step.put

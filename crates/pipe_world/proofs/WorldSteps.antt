@@ -1,7 +1,6 @@
 -- One event of the world: its record is what the rules say, and what is kept follows it.
 use Rattle.std.proofs.Common.{◌≡◌, ◌≢◌, ℕ, ◌<◌, Bool, true, false, if◌then◌else◌, List, [], ◌∷◌, ◌++◌, set, Option, Some, None, refl, sym, subst, ap, ◌∙◌, arith, inl, inr, eq-eqb}
-use Rattle.std.specs.Prelude.{nat_le, not, reverse, slice_index_or, Result, OnOk, OnErr, ◌||◌}
-use Rattle.std.specs.Prelude.{Ok as ResultOk, Err as ResultErr}
+use Rattle.std.specs.Prelude.{nat_le, not, reverse, slice_index_or, Result, OnOk, OnErr, ◌||◌, Ok as ResultOk, Err as ResultErr}
 use Rattle.std.proofs.lemmas.Bool.{and_from, and_left, both_ways, cases_eq, lt-ltb}
 use Rattle.std.proofs.lemmas.List.Elements.{All-cons}
 use Rattle.std.proofs.lemmas.List.{reverse-append, get_or-set_same, get_or-set_other, length-set}
@@ -14,7 +13,7 @@ use Rattle.pipe_base.specs.Clock.{stamp_at}
 use Rattle.pipe_base.specs.Limits.{last_stamp}
 use Rattle.pipe_base.specs.Moment.{is_up}
 use Rattle.pipe_base.specs.Settled.{unsettled}
-use Rattle.pipe_base.specs.Graph.{Graph, is_half, is_host}
+use Rattle.pipe_graph.specs.Graph.{Graph, is_half, is_host}
 use Rattle.pipe_model.specs.declared.event.Event.{Event}
 use Rattle.pipe_model.specs.declared.event.Event.TheVariants.{Send, Take, Crash}
 use Rattle.pipe_model.specs.declared.record.Record.{Record}
@@ -35,7 +34,8 @@ use Rattle.pipe_world.specs.declared.node.Node.{Node}
 use Rattle.pipe_world.specs.declared.node.NodeState.{NodeState}
 use Rattle.pipe_world.specs.Node as node
 use Rattle.pipe_world.specs.Queues as queues
-use Rattle.pipe_world.specs.Node.{StandsWith, Works, record_of}
+use Rattle.pipe_world.specs.Node.{StandsWith, Works}
+use Rattle.pipe_model.specs.Records.{record_of}
 use Rattle.pipe_world.specs.Turn.{ActsAt, IsPassing, is_crash, is_there, taken_of, IsUndecided}
 use Rattle.pipe_world.specs.World.{Adds, HasHalf, HasHost, Keeps, Restores, Stands}
 use Rattle.pipe_world.proofs.Passing.{acts_here, acts_only, item_told, others_live, outcome_acting, same_crashes, taken}
@@ -45,15 +45,15 @@ awake_if : (b : Bool) (o : Outcome) → is_idle o ≡ false → is_idle (if b th
 awake_if true o is = refl
 awake_if false o is = is
 
-awake_send : (failed : Option HostId) (full : Bool) (now next : ℕ) → is_idle (send_outcome failed full now next) ≡ false
-awake_send (Some host) full now next = refl
-awake_send None true now next = refl
-awake_send None false now next = awake_if (nat_le (stamp_at now next) last_stamp) (ClockEnd (record { 0 = next })) refl
+awake_send : (failed : Option HostId) (full : Bool) (top now next : ℕ) → is_idle (send_outcome failed full top now next) ≡ false
+awake_send (Some host) full top now next = refl
+awake_send None true top now next = refl
+awake_send None false top now next = awake_if (nat_le (stamp_at now next) top) (ClockEnd (record { 0 = next })) refl
 
 awake : (graph : Graph) (node : ℕ) (own : List Record) (event : Event) → is_idle (own_outcome graph node own event) ≡ false
 awake graph node own (Send host service now dests) =
-    awake_send (first_failed (noted_hosts own) dests) (is_window_full service (unsettled (sender_calls graph node own))) now.0 (next own)
-awake graph node own (Take link place keep) = awake_if (is_up (moments_of own) link.0) Ignored refl
+    awake_send (first_failed (noted_hosts own) dests) (is_window_full service (unsettled (sender_calls graph node own))) graph.top now.0 (next graph node own)
+awake graph node own (Take link place keep) = awake_if (is_up (moments_of graph node own) link.0) Ignored refl
 awake graph node own _ = refl
 
 unless : (b : Bool) (x y : Outcome) → b ≡ false → y ≡ (if b then x else y)

@@ -2,7 +2,7 @@
 use Rattle.std.specs.Prelude.{◌≡◌, ℕ, List}
 use Rattle.pipe_base.specs.declared.name.NodeId.{NodeId}
 use Rattle.pipe_base.specs.declared.step.Step.{Step}
-use Rattle.pipe_base.specs.Graph.{Graph}
+use Rattle.pipe_graph.specs.Graph.{Graph}
 use Rattle.pipe_host.specs.Host as host
 use Rattle.pipe_model.specs.declared.event.Event.{Event}
 use Rattle.pipe_model.specs.declared.event.Event.TheVariants.{Crash}
@@ -31,14 +31,6 @@ StandsWith graph node own r (Half h) = half.StandsWith graph node own r h
 pub record StandsIn (graph : Graph) (node : ℕ) (past : List Record) (k : NodeState) : Type 0 where
   pub node_stands : Stands graph node (own graph node past) k.node
   pub crashed_is : k.crashed ≡ has_crashed node past
-
--- the record of an event
-abbrev pub record_of : Event → Took → Step → Record
-record_of event took step = record { event = event; took = took; step = step }
-
--- a node crashed
-abbrev pub crashed : NodeId → Step → Record
-crashed node step = record_of (Crash node) Nothing step
 
 -- The record is what the node owes, and the node is ready to follow it.
 pub record Works (graph : Graph) (node : ℕ) (own : List Record) (r : Record) (new : Node) : Type 0 where

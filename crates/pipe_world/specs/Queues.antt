@@ -4,7 +4,7 @@ use Rattle.pipe_base.specs.declared.control.Addressed.{Addressed}
 use Rattle.pipe_base.specs.declared.name.LinkId.{LinkId}
 use Rattle.pipe_base.specs.declared.packet.Packet.{Packet}
 use Rattle.pipe_base.specs.declared.step.Outcome.{Outcome}
-use Rattle.pipe_base.specs.Graph.{Graph}
+use Rattle.pipe_graph.specs.Graph.{Graph}
 use Rattle.pipe_model.specs.declared.event.Event.{Event}
 use Rattle.pipe_model.specs.declared.event.Event.TheVariants.{Take, Lose, ControlTake, ControlLose, Cut}
 use Rattle.pipe_model.specs.declared.record.Record.{Record}
@@ -40,7 +40,8 @@ without_last count waits = record waits { control = take (length waits.control -
 
 -- after what an event takes, loses or cuts is gone
 abbrev pub left_by : Event → Outcome → Waits → Waits
-left_by (Take link place keep) outcome waits = if takes_out keep outcome then on_link link.0 (without_packet place) waits else waits
+left_by (Take link place keep) outcome waits =
+    if takes_out keep outcome then on_link link.0 (without_packet place) waits else waits
 left_by (Lose link place) outcome waits = if is_ok outcome then on_link link.0 (without_packet place) waits else waits
 left_by (ControlTake place keep) outcome waits = if takes_out keep outcome then without_message place waits else waits
 left_by (ControlLose place) outcome waits = if is_ok outcome then without_message place waits else waits
@@ -71,5 +72,6 @@ line_after link past = if is_cut link past then CutLine else Open (waiting_on li
 -- what is kept is what waits after the history
 pub record Stand (graph : Graph) (waits : Waits) (past : List Record) : Type 0 where
   pub count : length waits.lines ≡ length graph.links
-  pub lines_are : (link : ℕ) → link < length graph.links → slice_index_or waits.lines link CutLine ≡ line_after link past
+  pub lines_are : (link : ℕ) → link < length graph.links
+      → slice_index_or waits.lines link CutLine ≡ line_after link past
   pub control_is : waits.control ≡ waiting_control past

@@ -7,7 +7,7 @@ use Rattle.pipe_base.specs.declared.control.To.TheVariants.{Controller, Node}
 use Rattle.pipe_base.specs.declared.name.NodeId.{NodeId}
 use Rattle.pipe_base.specs.declared.packet.Packet.{Packet}
 use Rattle.pipe_base.specs.declared.step.Outcome.{Outcome}
-use Rattle.pipe_base.specs.Graph.{Graph, head_of}
+use Rattle.pipe_graph.specs.Graph.{Graph, head_of}
 use Rattle.pipe_base.specs.Step.{quiet_step}
 use Rattle.pipe_model.specs.declared.event.Event.{Event}
 use Rattle.pipe_model.specs.declared.event.Event.TheVariants.{Send, Tick, Take, Lose, ControlTake, ControlLose, Decide, Crash, Cut}
@@ -24,7 +24,7 @@ use Rattle.pipe_world.specs.declared.node.NodeState.{NodeState}
 use Rattle.pipe_world.specs.declared.turn.Turn.{Turn}
 use Rattle.pipe_world.specs.declared.turn.Turn.TheVariants.{Passes, Acts}
 use Rattle.pipe_world.specs.Node as node
-use Rattle.pipe_world.specs.Node.{record_of}
+use Rattle.pipe_model.specs.Records.{record_of}
 use Rattle.pipe_world.specs.Queues.{IsInPlace}
 use Rattle.pipe_world.specs.World.{Keeps}
 
@@ -114,7 +114,8 @@ passing_record event took outcome = record_of event took (quiet_step outcome)
 pub record IsPassing (graph : Graph) (nodes : List NodeState) (waits : Waits) (r : Record) : Type 0 where
   pub rules : (past : List Record) → Keeps graph nodes waits past → IsStep graph past r
   pub nobodys : (n : ℕ) → is_own graph n r ≡ false
-  pub crashes : (past : List Record) → Keeps graph nodes waits past → (n : ℕ) → has_crashed n (r ∷ past) ≡ has_crashed n past
+  pub crashes : (past : List Record) → Keeps graph nodes waits past → (n : ℕ)
+      → has_crashed n (r ∷ past) ≡ has_crashed n past
   pub in_place : IsInPlace waits r.event r.step.outcome
 
 -- the node acts in the event and can, and this is taken

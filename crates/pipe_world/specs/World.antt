@@ -1,7 +1,7 @@
 -- What the world is seen as, what it keeps, and what an event adds.
 use Rattle.std.specs.Prelude.{◌≡◌, ◌≢◌, ℕ, ◌<◌, ◌≤◌, true, false, List, [], ◌∷◌, ◌++◌, length, reverse, slice_index_or}
-use Rattle.pipe_base.specs.Graph.{Graph, IsGraph, is_half, is_host}
-use Rattle.pipe_base.specs.Reach.{JoinsAllHosts}
+use Rattle.pipe_graph.specs.Graph.{Graph, IsGraph, is_half, is_host}
+use Rattle.pipe_graph.specs.Reach.{JoinsAllHosts}
 use Rattle.pipe_control.specs.declared.controller.Controller.{Controller}
 use Rattle.pipe_control.specs.Known as control
 use Rattle.pipe_model.specs.declared.event.Event.{Event}
@@ -15,6 +15,7 @@ use Rattle.pipe_model.specs.Run.{IsHistory, IsNodeHistory, IsStep}
 use Rattle.pipe_net.specs.Waits.{Waits}
 use Rattle.pipe_world.specs.declared.node.Node.{Node}
 use Rattle.pipe_world.specs.declared.node.NodeState.{NodeState}
+use Rattle.pipe_base.specs.Limits.{most_nodes, most_links}
 use Rattle.pipe_world.specs.Node as node
 use Rattle.pipe_world.specs.Queues as queues
 
@@ -27,8 +28,8 @@ pub record GraphAndTrace : Type 0 where
 pub record Keeps (graph : Graph) (nodes : List NodeState) (waits : Waits) (past : List Record) : Type 0 where
   pub is_graph : IsGraph graph
   pub joined : JoinsAllHosts graph
-  pub few_links : length graph.links ≤ 1088
-  pub few_nodes : graph.nodes ≤ 192
+  pub few_links : length graph.links ≤ most_links
+  pub few_nodes : graph.nodes ≤ most_nodes
   pub count : length nodes ≡ graph.nodes
   pub nodes_are : (n : ℕ) (d : NodeState) → n < graph.nodes → node.StandsIn graph n past (slice_index_or nodes n d)
   pub queues_are : queues.Stand graph waits past
@@ -73,7 +74,8 @@ pub record StandsForSome (graph : Graph) (id : ℕ) (k : Node) : Type 0 where
 
 -- an event at a node: its record is what the rules say, and what is kept follows it
 pub record Adds (graph : Graph) (id : ℕ) (before after : NodeState) (waits left : Waits) (r : Record) : Type 0 where
-  pub rules : (past : List Record) → IsHistory graph past → node.StandsIn graph id past before → queues.Stand graph waits past → IsStep graph past r
+  pub rules : (past : List Record) → IsHistory graph past → node.StandsIn graph id past before
+      → queues.Stand graph waits past → IsStep graph past r
   pub node_stands : (past : List Record) → node.StandsIn graph id past before → node.StandsIn graph id (r ∷ past) after
   pub others : (n : ℕ) → n ≢ id → is_own graph n r ≡ false
   pub others_live : (n : ℕ) → n ≢ id → is_crash_of n r.event ≡ false
@@ -81,19 +83,22 @@ pub record Adds (graph : Graph) (id : ℕ) (before after : NodeState) (waits lef
 
 -- a node that worked out a step which is refused stands as before
 abbrev pub Restores : Graph → ℕ → NodeState → NodeState → Type 0
-Restores graph id before after = (past : List Record) → node.StandsIn graph id past before → node.StandsIn graph id past after
+Restores graph id before after = (past : List Record) → node.StandsIn graph id past before
+    → node.StandsIn graph id past after
 
 -- an event at a node: with the record that the rules give it, too much would be put
 pub record WouldOverfill (graph : Graph) (id : ℕ) (before : NodeState) (waits : Waits) (trace : List Record) (event : Event) (items : ℕ) : Type 0 where
   pub next : Record
   pub event_is : next.event ≡ event
-  pub rules : (past : List Record) → IsHistory graph past → node.StandsIn graph id past before → queues.Stand graph waits past → IsStep graph past next
+  pub rules : (past : List Record) → IsHistory graph past → node.StandsIn graph id past before
+      → queues.Stand graph waits past → IsStep graph past next
   pub over : IsOver trace next items
 
 -- an event that changes no node: its record was appended, and what waits follows it
 pub record PassesBy (waits left : Waits) (old new : List Record) (r : Record) : Type 0 where
   pub appended : new ≡ old ++ r ∷ []
-  pub queues_stand : (graph : Graph) (past : List Record) → queues.Stand graph waits past → queues.Stand graph left (r ∷ past)
+  pub queues_stand : (graph : Graph) (past : List Record) → queues.Stand graph waits past
+      → queues.Stand graph left (r ∷ past)
 
 -- the world after an event: the same network, and one record of the event more
 pub record Extends (old new : GraphAndTrace) (event : Event) : Type 0 where

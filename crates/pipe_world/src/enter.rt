@@ -1,6 +1,6 @@
 // A record enters the history: its packets are put, and what it takes leaves its list.
 ghost use Rattle.std.specs.Prelude.{◌≡◌, ◌≤◌, ℕ, [], ◌∷◌, ◌++◌, List, OnOk, OnErr, IfErr, length, reverse};
-ghost use Rattle.pipe_base.specs.Graph.{Graph};
+ghost use Rattle.pipe_graph.specs.Graph.{Graph};
 ghost use Rattle.pipe_model.specs.declared.record.Record.{Record};
 ghost use Rattle.pipe_base.specs.Limits.{most_items};
 ghost use Rattle.pipe_model.specs.Items.{items_in};
@@ -25,7 +25,8 @@ pub fn enter(queues: &mut Queues, history: &mut History, made: &mut Record) -> R
     ensures ok { OnOk result (history.new ≡ history.old ++ made.old ∷ []) }
     ensures err { OnErr result ((history.new ≡ history.old) × (made.new ≡ made.old) × (queues.new ≡ queues.old)) }
     ensures full { IfErr result (FullBy history.old made.old) }
-    ensures queues_ok { OnOk result ((graph : Graph) (past : List Record) → Stand graph queues.old past → Stand graph queues.new (made.old ∷ past)) }
+    ensures queues_ok { OnOk result ((graph : Graph) (past : List Record) → Stand graph queues.old past
+        → Stand graph queues.new (made.old ∷ past)) }
 {
     let at = history.trace().len();
     if put_both(queues, made).is_err() {

@@ -1,6 +1,6 @@
 // One event of a run: the controller decides, or it hears what the event brings to it.
 ghost use Rattle.std.specs.Prelude.{◌≡◌, ◌≤◌, ℕ, IfErr, OnErr, OnOk, length, reverse};
-ghost use Rattle.pipe_base.specs.Graph.{Graph};
+ghost use Rattle.pipe_graph.specs.Graph.{Graph};
 ghost use Rattle.pipe_control.specs.Known as control;
 ghost use Rattle.pipe_control.specs.Known.{Fits, IsSized};
 ghost use Rattle.pipe_model.specs.Controller.{after_event};
@@ -12,6 +12,7 @@ ghost use Rattle.pipe_world.specs.History.{FullBy};
 ghost use Rattle.pipe_world.specs.Queues.{Stand};
 ghost use Rattle.pipe_world.specs.Turn.{IsUndecided};
 ghost use Rattle.pipe_world.specs.World.{AddsEvent, RunsFor};
+ghost use Rattle.pipe_base.specs.Limits.{most_nodes, most_links};
 
 use crate::enter::enter;
 use crate::fault::StepFault;
@@ -37,7 +38,8 @@ pub fn run_event(
     requires event { IsOfGraph topology.now event }
     ensures ok { OnOk result (AddsEvent history.old history.new event) }
     ensures err { OnErr result (history.new ≡ history.old) }
-    ensures full { IfErr result (λ fault. (items : ℕ) → fault ≡ StepFault.Full items → Overfills topology.now history.old event items) }
+    ensures full { IfErr result (λ fault. (items : ℕ) → fault ≡ StepFault.Full items
+        → Overfills topology.now history.old event items) }
     ensures runs { RunsFor topology.now nodes.new queues.new controller.new history.new }
 {
     if let Event::Decide = event {
@@ -57,14 +59,16 @@ fn decide(
     history: &mut History,
 ) -> Result<(), StepFault>
     requires fits { Fits topology.now controller.old }
-    requires few_links { length topology.now.links ≤ 1088 }
-    requires few_hosts { topology.now.hosts ≤ 192 }
-    requires few_nodes { topology.now.nodes ≤ 192 }
+    requires few_links { length topology.now.links ≤ most_links }
+    requires few_hosts { topology.now.hosts ≤ most_nodes }
+    requires few_nodes { topology.now.nodes ≤ most_nodes }
     requires waits { Stand topology.now queues.old (reverse history.old) }
     ensures ok { OnOk result ((v : View) → control.Stands topology.now v controller.old
         → Decides topology.now v queues.old queues.new controller.new history.old history.new) }
-    ensures err { OnErr result ((history.new ≡ history.old) × (queues.new ≡ queues.old) × (controller.new ≡ controller.old)) }
-    ensures full { IfErr result (λ fault. (v : View) → control.Stands topology.now v controller.old → FullBy history.old (decided topology.now v) fault) }
+    ensures err { OnErr result ((history.new ≡ history.old) × (queues.new ≡ queues.old)
+        × (controller.new ≡ controller.old)) }
+    ensures full { IfErr result (λ fault. (v : View) → control.Stands topology.now v controller.old
+        → FullBy history.old (decided topology.now v) fault) }
 {
     let Ok((step, change)) = controller.work_step(topology) else {
         return Err(StepFault::NoMemory);
@@ -87,7 +91,7 @@ fn decide(
 fn hear(controller: &mut Controller, made: &Record)
     requires { IsSized controller.old }
     ensures { (graph : Graph) (v : View) → IsUndecided made.now.event → control.Stands graph v controller.old
-        → control.Stands graph (after_event graph made.now.event made.now.took v) controller.new }
+        → control.Stands graph (after_event graph made.now.event made.now.took made.now.step.outcome v) controller.new }
 {
     if let (Event::ControlTake { .. }, Took::Message { addressed }) = (&made.event, &made.took) {
         if let To::Controller = addressed.to {

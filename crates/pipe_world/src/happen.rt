@@ -1,15 +1,17 @@
 // One event of the world.
 ghost use Rattle.std.specs.Prelude.{◌≡◌, ◌≤◌, ◌∷◌, ◌++◌, ℕ, List, [], IfErr, IfOk, OnOk, OnErr, length, reverse, true, false};
-ghost use Rattle.pipe_base.specs.Graph.{Graph};
+ghost use Rattle.pipe_graph.specs.Graph.{Graph};
 ghost use Rattle.pipe_model.specs.declared.record.Record.{Record};
 ghost use Rattle.pipe_model.specs.Event.{IsOfGraph};
 ghost use Rattle.pipe_model.specs.Items.{Overfills};
 ghost use Rattle.pipe_world.specs.History.{FullBy};
 ghost use Rattle.pipe_world.specs.Queues.{IsInPlace, Stand};
 ghost use Rattle.pipe_world.specs.Node as kept;
-ghost use Rattle.pipe_world.specs.Node.{Works, record_of};
+ghost use Rattle.pipe_world.specs.Node.{Works};
+ghost use Rattle.pipe_model.specs.Records.{record_of};
 ghost use Rattle.pipe_world.specs.Turn.{ActsAt, IsAt, is_crash, is_there, passing_record, taken_of, IsUndecided};
 ghost use Rattle.pipe_world.specs.World.{Adds, AddsEvent, PassesBy, Restores, Stands, StandsForSome, WouldOverfill};
+ghost use Rattle.pipe_base.specs.Limits.{most_links};
 
 use crate::enter::enter;
 use crate::fault::StepFault;
@@ -34,7 +36,8 @@ pub fn happen(
     requires undecided { IsUndecided event }
     ensures ok { OnOk result (AddsEvent history.old history.new event) }
     ensures err { OnErr result (history.new ≡ history.old) }
-    ensures full { IfErr result (λ fault. (items : ℕ) → fault ≡ StepFault.Full items → Overfills topology.now history.old event items) }
+    ensures full { IfErr result (λ fault. (items : ℕ) → fault ≡ StepFault.Full items
+        → Overfills topology.now history.old event items) }
     ensures stands { Stands topology.now nodes.new queues.new history.new }
 {
     let Ok(turn) = whose_turn(topology, nodes, queues, &event) else {
@@ -93,11 +96,14 @@ fn act(
     requires stands { StandsForSome topology.now id.0 state.old.node }
     requires awake { state.old.crashed ≡ false }
     requires waits { Stand topology.now queues.old (reverse history.old) }
-    requires few { length topology.now.links ≤ 1088 }
+    requires few { length topology.now.links ≤ most_links }
     requires there { is_there queues.old event ≡ true }
-    ensures ok { OnOk result ((r : Record) × (history.new ≡ history.old ++ r ∷ []) × (r.event ≡ event) × Adds topology.now id.0 state.old state.new queues.old queues.new r) }
-    ensures err { OnErr result ((history.new ≡ history.old) × (queues.new ≡ queues.old) × Restores topology.now id.0 state.old state.new) }
-    ensures full { IfErr result (λ fault. (items : ℕ) → fault ≡ StepFault.Full items → WouldOverfill topology.now id.0 state.old queues.old history.old event items) }
+    ensures ok { OnOk result ((r : Record) × (history.new ≡ history.old ++ r ∷ []) × (r.event ≡ event)
+        × Adds topology.now id.0 state.old state.new queues.old queues.new r) }
+    ensures err { OnErr result ((history.new ≡ history.old) × (queues.new ≡ queues.old)
+        × Restores topology.now id.0 state.old state.new) }
+    ensures full { IfErr result (λ fault. (items : ℕ) → fault ≡ StepFault.Full items
+        → WouldOverfill topology.now id.0 state.old queues.old history.old event items) }
 {
     let crashes = is_crash(&event);
     let mut made = Record {
@@ -139,8 +145,10 @@ fn work_at(
 ) -> Result<KeptStep, NoMemory>
     requires acts { (id : NodeId) × IsAt topology.now id event.now took.now node.old }
     requires undecided { IsUndecided event.now }
-    ensures work { IfOk result (λ step. (id : NodeId) (own : List Record) → IsOfGraph topology.now event.now → ActsAt topology.now id event.now took.now
-        → kept.Stands topology.now id.0 own node.old → Works topology.now id.0 own (record_of event.now took.now step) node.new) }
+    ensures work { IfOk result (λ step. (id : NodeId) (own : List Record) → IsOfGraph topology.now event.now
+        → ActsAt topology.now id event.now took.now
+        → kept.Stands topology.now id.0 own node.old
+        → Works topology.now id.0 own (record_of event.now took.now step) node.new) }
     ensures err { OnErr result (node.new ≡ node.old) }
 {
     match event {

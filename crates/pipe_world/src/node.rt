@@ -1,14 +1,14 @@
 // What is kept for a node: a host or a half.
 ghost use Rattle.std.specs.Prelude.{◌≡◌, ◌∷◌, ◌<◌, ◌≤◌, ℕ, Bool, List, true, length, IfOk, OnErr};
 ghost use Rattle.pipe_base.specs.declared.name.HostId.{HostId};
-ghost use Rattle.pipe_base.specs.Graph.{Graph, ins_of, is_host};
+ghost use Rattle.pipe_graph.specs.Graph.{Graph, ins_of, is_host};
 ghost use Rattle.pipe_base.specs.Limits.{most_receivers};
 ghost use Rattle.pipe_base.specs.Moment.{has_link};
-ghost use Rattle.pipe_host.specs.Steps.{sent, taken, ticked, told};
+ghost use Rattle.pipe_model.specs.Records.{told, sent, taken, ticked, crashed};
 ghost use Rattle.pipe_model.specs.declared.record.Record.{Record as ARecord};
 ghost use Rattle.pipe_model.specs.Acting.{ComesIn};
 ghost use Rattle.pipe_model.specs.Run.{IsNodeStep};
-ghost use Rattle.pipe_world.specs.Node.{Stands, StandsWith, Works, crashed};
+ghost use Rattle.pipe_world.specs.Node.{Stands, StandsWith, Works};
 
 use pipe_base::{
     Control, DestList, KeptStep, LinkId, NoMemory, NodeId, Outcome, Packet, Service, Ts,
@@ -41,10 +41,12 @@ impl Node {
         now: Ts,
         dests: &DestList,
     ) -> Result<KeptStep, NoMemory>
-        requires host { (graph : Graph) × (node : ℕ) × (own : List ARecord) × (is_host graph node ≡ true) × Stands graph node own self.old }
+        requires host { (graph : Graph) × (node : ℕ) × (own : List ARecord) × (is_host graph node ≡ true)
+            × Stands graph node own self.old }
         requires some { 0 < length dests.now }
         requires few { length dests.now ≤ most_receivers }
-        ensures ok { IfOk result (λ step. (graph : Graph) (host : HostId) (own : List ARecord) → Stands graph host.0 own self.old
+        ensures ok { IfOk result (λ step. (graph : Graph) (host : HostId) (own : List ARecord)
+            → Stands graph host.0 own self.old
             → Works graph host.0 own (sent host service now dests.now step) self.new) }
         ensures err { OnErr result (self.new ≡ self.old) }
     {
@@ -56,7 +58,8 @@ impl Node {
 
     /// Works out a tick.
     pub fn work_tick(&self, now: Ts) -> Result<KeptStep, NoMemory>
-        ensures { IfOk result (λ step. (graph : Graph) (node : NodeId) (own : List ARecord) → Stands graph node.0 own self.now
+        ensures { IfOk result (λ step. (graph : Graph) (node : NodeId) (own : List ARecord)
+            → Stands graph node.0 own self.now
             → Works graph node.0 own (ticked node now step) self.now) }
     {
         match self {
@@ -68,8 +71,10 @@ impl Node {
     /// Works out the taking of a packet from a link into the node. Of the node only the message that it holds and the tombstones
     /// are changed.
     pub fn work_take(&mut self, link: LinkId, packet: &Packet) -> Result<KeptStep, NoMemory>
-        ensures ok { IfOk result (λ step. (graph : Graph) (node : ℕ) (own : List ARecord) (place : ℕ) (keep : Bool) → Stands graph node own self.old
-            → has_link link.0 (ins_of graph node) ≡ true → Works graph node own (taken link packet.now place keep step) self.new) }
+        ensures ok { IfOk result (λ step. (graph : Graph) (node : ℕ) (own : List ARecord) (place : ℕ) (keep : Bool)
+            → Stands graph node own self.old
+            → has_link link.0 (ins_of graph node) ≡ true
+            → Works graph node own (taken link packet.now place keep step) self.new) }
         ensures err { OnErr result (self.new ≡ self.old) }
     {
         match self {
@@ -86,7 +91,8 @@ impl Node {
         control: &Control,
     ) -> Result<KeptStep, NoMemory>
         requires stands { (node : ℕ) × (own : List ARecord) × Stands topology.now node own self.old }
-        ensures ok { IfOk result (λ step. (node : NodeId) (own : List ARecord) (place : ℕ) (keep : Bool) → Stands topology.now node.0 own self.old
+        ensures ok { IfOk result (λ step. (node : NodeId) (own : List ARecord) (place : ℕ) (keep : Bool)
+            → Stands topology.now node.0 own self.old
             → Works topology.now node.0 own (told node control.now place keep step) self.new) }
         ensures err { OnErr result (self.new ≡ self.old) }
     {

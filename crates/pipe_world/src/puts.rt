@@ -8,7 +8,7 @@ ghost use Rattle.pipe_net.specs.Waits.{Waits, on_link, waiting, with_packet, wit
 ghost use Rattle.pipe_world.specs.Queues.{AreKnown, IsInPlace, IsThere, left_by, with_messages, with_puts, without_last, without_message};
 
 use pipe_base::{Addressed, LinkId, NoMemory, Outcome, Packet};
-use pipe_model::Event;
+use pipe_model::{Event, is_idle};
 use pipe_net::Queues;
 
 /// Puts a copy of each packet at the end of its link's list, or none.
@@ -71,7 +71,8 @@ pub fn take_back(queues: &mut Queues, puts: &[(LinkId, Packet)])
 fn take_one_back(queues: &mut Queues, link: LinkId)
     requires { link.0 < length queues.old.lines }
     ensures count { length queues.new.lines ≡ length queues.old.lines }
-    ensures back { (before : Waits) (packet : APacket) → queues.old ≡ on_link link.0 (with_packet packet) before → queues.new ≡ before }
+    ensures back { (before : Waits) (packet : APacket) → queues.old ≡ on_link link.0 (with_packet packet) before
+        → queues.new ≡ before }
 {
     let last = queues.waiting(link).saturating_sub(1);
     queues.lose(link, last);
@@ -164,10 +165,4 @@ fn is_ok(outcome: Outcome) -> bool
     ensures { result ≡ is_ok outcome }
 {
     matches!(outcome, Outcome::Ok)
-}
-
-fn is_idle(outcome: Outcome) -> bool
-    ensures { result ≡ is_idle outcome }
-{
-    matches!(outcome, Outcome::Crashed | Outcome::NoItem)
 }

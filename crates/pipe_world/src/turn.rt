@@ -1,14 +1,14 @@
 // Whose turn it is in an event: a node acts, or no node does anything.
 ghost use Rattle.std.specs.Prelude.{◌≡◌, ◌<◌, List, IfOk, IfSome, MatchOption, length};
 ghost use Rattle.std.specs.Option.{option_map};
-ghost use Rattle.pipe_base.specs.Graph.{Graph, IsGraph};
+ghost use Rattle.pipe_graph.specs.Graph.{Graph, IsGraph};
 ghost use Rattle.pipe_model.specs.declared.record.Record.{Record};
 ghost use Rattle.pipe_model.specs.Event.{IsOfGraph};
-ghost use Rattle.pipe_world.specs.Turn.{ActsAt, IsFound, IsItem, IsMessage, IsOfNobody, IsToController, IsToNode, IsTurn, ReachesKnown, IsUndecided};
+ghost use Rattle.pipe_world.specs.Turn.{ActsAt, IsFound, IsItem, IsOfNobody, IsTurn, ReachesKnown, IsUndecided};
 ghost use Rattle.pipe_world.specs.World.{Keeps};
 
 use crate::node::NodeState;
-use pipe_base::{Addressed, LinkId, NoMemory, NodeId, Outcome, Packet, To};
+use pipe_base::{Addressed, LinkId, NoMemory, NodeId, Outcome, Packet};
 use pipe_model::{Event, Took};
 use pipe_net::Queues;
 use pipe_topo::Topology;
@@ -100,25 +100,5 @@ fn acting_node(topology: &Topology, event: &Event, took: &Took) -> Option<NodeId
     ensures acts { MatchOption result (IsOfNobody event.now took.now) (λ id. ActsAt topology.now id event.now took.now) }
     ensures known { IfSome result (λ id. id.0 < topology.now.nodes) }
 {
-    match event {
-        Event::Send { host, .. } => Some(NodeId(host.0)),
-        Event::Tick { node, .. } | Event::Crash { node } => Some(*node),
-        Event::Take { link, .. } => Some(topology.head(*link)),
-        Event::ControlTake { .. } => receiver(took),
-        _ => None,
-    }
-}
-
-/// The node that a control message reaches, None where it goes to the controller.
-fn receiver(took: &Took) -> Option<NodeId>
-    requires { IsMessage took.now }
-    ensures { MatchOption result (IsToController took.now) (λ id. IsToNode id took.now) }
-{
-    let Took::Message { addressed } = took else {
-        unreachable!()
-    };
-    match addressed.to {
-        To::Node(node) => Some(node),
-        To::Controller => None,
-    }
+    pipe_model::acting_node(topology.ends(), event, took)
 }

@@ -1,9 +1,9 @@
 // The world: a network, what its nodes keep, what waits, and all that happened.
 ghost use Rattle.std.specs.Prelude.{◌≡◌, ◌<◌, ◌≤◌, ℕ, List, [], true, IfErr, IfOk, OnOk, OnErr, length, reverse, slice_index_or};
 ghost use Rattle.pipe_model.specs.Event.{IsOfGraph};
-ghost use Rattle.pipe_base.specs.Graph.{Graph, IsGraph, is_half};
+ghost use Rattle.pipe_graph.specs.Graph.{Graph, IsGraph, is_half};
 ghost use Rattle.pipe_base.specs.Limits.{most_items};
-ghost use Rattle.pipe_base.specs.Reach.{JoinsAllHosts};
+ghost use Rattle.pipe_graph.specs.Reach.{JoinsAllHosts};
 ghost use Rattle.pipe_model.specs.AllOrNone.{IsAllOrNone};
 ghost use Rattle.pipe_model.specs.Items.{Overfills, items_of};
 ghost use Rattle.pipe_model.specs.LateMessage.{IsNoneLateOfItself};
@@ -78,7 +78,8 @@ impl World {
     pub fn step(&mut self, event: Event) -> Result<(), StepFault>
         requires event { IsOfGraph self.old.graph event }
         ensures ok { OnOk result (Extends self.old self.new event) }
-        ensures full { IfErr result (λ fault. (items : ℕ) → fault ≡ StepFault.Full items → Overfills self.old.graph self.old.trace event items) }
+        ensures full { IfErr result (λ fault. (items : ℕ) → fault ≡ StepFault.Full items
+            → Overfills self.old.graph self.old.trace event items) }
         ensures err { OnErr result (self.new ≡ self.old) }
     {
         run_event(
@@ -190,7 +191,8 @@ impl World {
 
 fn host_in(nodes: &[NodeState], host: HostId) -> &Host
     requires { (graph : Graph) × (past : List Record) × HasHost graph nodes.now past host.0 }
-    ensures { (graph : Graph) (past : List Record) → HasHost graph nodes.now past host.0 → hosts.Stands graph host.0 (own graph host.0 past) result.now }
+    ensures { (graph : Graph) (past : List Record) → HasHost graph nodes.now past host.0
+        → hosts.Stands graph host.0 (own graph host.0 past) result.now }
 {
     match &nodes[usize::from(host.0)].node {
         Node::Host(host) => host,
@@ -200,7 +202,8 @@ fn host_in(nodes: &[NodeState], host: HostId) -> &Host
 
 fn half_in(nodes: &[NodeState], node: NodeId) -> &Half
     requires { (graph : Graph) × (past : List Record) × HasHalf graph nodes.now past node.0 }
-    ensures { (graph : Graph) (past : List Record) → HasHalf graph nodes.now past node.0 → halves.Stands graph node.0 (own graph node.0 past) result.now }
+    ensures { (graph : Graph) (past : List Record) → HasHalf graph nodes.now past node.0
+        → halves.Stands graph node.0 (own graph node.0 past) result.now }
 {
     match &nodes[usize::from(node.0)].node {
         Node::Host(_) => unreachable!(),
@@ -212,7 +215,8 @@ fn half_in(nodes: &[NodeState], node: NodeId) -> &Half
 fn fresh_nodes(alloc: Global, topology: &Topology, count: u16) -> Result<Vec<NodeState>, NoMemory>
     requires { count ≡ topology.now.nodes }
     ensures count { IfOk result (λ nodes. length nodes.items ≡ topology.now.nodes) }
-    ensures stand { IfOk result (λ nodes. (n : ℕ) (d : NodeState) → n < topology.now.nodes → node.StandsIn topology.now n [] (slice_index_or nodes.items n d)) }
+    ensures stand { IfOk result (λ nodes. (n : ℕ) (d : NodeState) → n < topology.now.nodes
+        → node.StandsIn topology.now n [] (slice_index_or nodes.items n d)) }
 {
     let mut nodes = Vec::new(alloc);
     'nodes: for id in 0..count {

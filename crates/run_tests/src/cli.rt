@@ -1,8 +1,9 @@
 // The program over the forms in memory: a few worked inputs with what it writes, refusals, and faults of the outside. `.ci`
 // runs the built program on all others.
 
-use pipe_base::{List, MemorySink, MemorySource, NoMemory, SteadySink, SteadySource};
+use pipe_base::{List, NoMemory};
 use pipe_cli::{Status, Words, run};
+use pipe_outside::{MemorySink, MemorySource, SteadySink, SteadySource};
 use pipe_text::LineKind;
 use pipe_text_plan::PlanFault;
 use pipe_topo::TopoFault;

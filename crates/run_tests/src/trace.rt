@@ -3,11 +3,11 @@
 
 use pipe_base::{
     Addressed, Announced, Body, Control, DestList, Entry, Fate, HostId, KeptStep, Key, LinkId,
-    List, NoMemory, NodeId, Outcome, Packet, PacketKind, Service, Step, To, Ts,
+    List, NoMemory, NodeId, Outcome, Packet, PacketKind, Service, SharedList, Step, To, Ts,
 };
 use pipe_model::{Event, Record, Took, Trace};
+use pipe_text_plan::{parts_of, read_plan};
 use pipe_text_trace::{print_event, print_trace};
-use pipe_topo::Names;
 use std::alloc::Global;
 
 fn happened(event: Event, took: Took, outcome: Outcome) -> Record {
@@ -207,6 +207,7 @@ fn notice(alloc: Global) -> Result<Control, NoMemory> {
     let mut list = List::new(alloc);
     list.push(FAILED)?;
     list.push(FAILED)?;
+    let list = SharedList::from_list(list)?;
     Ok(Control::Notice { list })
 }
 
@@ -214,6 +215,7 @@ fn drop_links(alloc: Global) -> Result<Control, NoMemory> {
     let mut links = List::new(alloc);
     links.push(LinkId(3))?;
     links.push(LinkId(2))?;
+    let links = SharedList::from_list(links)?;
     Ok(Control::DropLinks { links })
 }
 
@@ -284,21 +286,17 @@ event 18 crash s0.down\noutcome crashed\n\
 event 19 cut 1\noutcome clockend 281474976710655\n\
 end\n";
 
-fn add_names(names: &mut Names) -> Result<(), NoMemory> {
-    for name in ["h0", "h1", "s0"] {
-        if names.len() < 9 {
-            let _ = names.add(name)?;
-        }
-    }
-    Ok(())
-}
-
+// The names are those of a star of two hosts.
 fn is_printed(alloc: Global, trace: &Trace) -> Result<bool, NoMemory> {
-    let mut names = Names::new(alloc);
-    add_names(&mut names)?;
-    let text = print_trace(alloc, &names, 2, trace)?;
+    let Some(parts) = parts_of(b"star 2\n") else {
+        return Ok(false);
+    };
+    let Ok(star) = read_plan(alloc, &parts) else {
+        return Ok(false);
+    };
+    let text = print_trace(alloc, &star.names, trace)?;
     let crash = Event::Crash { node: NodeId(2) };
-    let alone = print_event(alloc, &names, 2, &crash)?;
+    let alone = print_event(alloc, &star.names, &crash)?;
     Ok(text.as_slice() == TEXT.as_bytes() && alone.as_slice() == b"crash s0.up\n".as_slice())
 }
 

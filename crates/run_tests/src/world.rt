@@ -1,6 +1,6 @@
 // What no clause says: that worlds and steps succeed with ample memory. Traces worked out by hand are in `.ci`.
 
-use pipe_base::{Body, HostId, LAST_STAMP, LinkId, List, NodeId, Service, Ts};
+use pipe_base::{Body, HostId, LinkId, List, NodeId, Service, Ts};
 use pipe_model::Event;
 use pipe_topo::{Plan, TopoFault, Topology};
 use pipe_world::World;
@@ -52,7 +52,7 @@ fn send(
     dests.push((HostId(receiver), Body::empty(alloc)))?;
     assert!(rt; host < world.topology().hosts());
     assert!(rt; receiver < world.topology().hosts());
-    assert!(rt; now <= LAST_STAMP);
+    assert!(rt; now <= world.topology().top().0);
     world.step(Event::Send {
         host: HostId(host),
         service: Service::BestEffort,
@@ -67,7 +67,7 @@ fn play(rt: &impl Abort, alloc: Global, world: &mut World, act: Act) -> Result<(
         Act::Send(host, now, receiver) => send(rt, alloc, world, host, now, receiver)?,
         Act::Tick(node, now) => {
             assert!(rt; node < world.topology().nodes());
-            assert!(rt; now <= LAST_STAMP);
+            assert!(rt; now <= world.topology().top().0);
             world.step(Event::Tick {
                 node: NodeId(node),
                 now: Ts(now),

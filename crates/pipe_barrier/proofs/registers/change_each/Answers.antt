@@ -6,7 +6,7 @@ use Rattle.pipe_barrier.proofs.registers.change_each.Goals as goal
 
 -- what is read past the end
 none : Register
-none = record { link = record { 0 = 0 }; be = record { 0 = 0 }; commit = record { 0 = 0 }; up = false; kept = false }
+none = record { link = record { 0 = 0 }; be = record { 0 = 0 }; commit = record { 0 = 0 }; up = false; retained = false }
 
 pub links-preserved : goal.links-preserved
 unfolding none

@@ -1,7 +1,6 @@
 use Rattle.std.proofs.Common.{◌≡◌, ◌+◌, ◌<◌, ◌^◌, drop, length, map}
 use Rattle.pipe_base.specs.Packets.{sent_to}
-use Rattle.pipe_base.specs.ShortestRoute.{picked}
-use Rattle.pipe_base.specs.Ways.{PutsAlone, with_ways}
+use Rattle.pipe_base.specs.Ways.{picked, PutsAlone, with_ways}
 use Rattle.pipe_clock.proofs.messages.scatter.Given as goal
 
 abbrev pub invariant-dests : goal.invariant-dests

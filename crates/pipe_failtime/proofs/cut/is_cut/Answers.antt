@@ -1,6 +1,6 @@
 use Rattle.std.proofs.Common.{ℕ, Bool, not, ap, ◌∙◌}
 use Rattle.pipe_topo.specs.Sets.{has}
-use Rattle.pipe_base.specs.Cut.{is_cut}
+use Rattle.pipe_graph.specs.Cut.{is_cut}
 use Rattle.pipe_failtime.proofs.cut.is_cut.Goals as goal
 
 pub returns : goal.returns

@@ -1,7 +1,7 @@
 use Rattle.std.proofs.Common.{ℕ, ◌&&◌, sym, ◌∙◌, arith}
-use Rattle.pipe_base.specs.Reach.{reaches}
-use Rattle.pipe_paths.proofs.BelowLaws.{any_below_from}
-use Rattle.pipe_paths.proofs.Tests.{and_both}
+use Rattle.pipe_graph.specs.Reach.{reaches}
+use Rattle.pipe_graph.proofs.BelowLaws.{any_below_from}
+use Rattle.pipe_graph.proofs.Tests.{and_both}
 use Rattle.pipe_topo.specs.Sets.{has}
 use Rattle.pipe_failtime.proofs.cut.reaches_some.Goals as goal
 

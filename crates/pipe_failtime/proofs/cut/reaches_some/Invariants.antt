@@ -1,6 +1,6 @@
 use Rattle.std.proofs.Common.{◌≡◌, ℕ, ◌&&◌, false}
-use Rattle.pipe_base.specs.Below.{any_below}
-use Rattle.pipe_base.specs.Reach.{reaches}
+use Rattle.pipe_graph.specs.Below.{any_below}
+use Rattle.pipe_graph.specs.Reach.{reaches}
 use Rattle.pipe_topo.specs.Sets.{has}
 use Rattle.pipe_failtime.proofs.cut.reaches_some.Given as goal
 

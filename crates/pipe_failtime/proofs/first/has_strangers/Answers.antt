@@ -1,7 +1,7 @@
 use Rattle.std.proofs.Common.{sym, ◌∙◌, arith}
-use Rattle.pipe_paths.proofs.BelowLaws.{any_below_from}
+use Rattle.pipe_graph.proofs.BelowLaws.{any_below_from}
 use Rattle.pipe_topo.specs.Sets.{has}
-use Rattle.pipe_base.specs.Doomed.{is_stranger}
+use Rattle.pipe_graph.specs.Doomed.{is_stranger}
 use Rattle.pipe_failtime.proofs.first.has_strangers.Goals as goal
 
 pub returns-then-is_stranger : goal.returns-then-is_stranger

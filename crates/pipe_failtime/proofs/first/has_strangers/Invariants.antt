@@ -1,7 +1,7 @@
 use Rattle.std.proofs.Common.{◌≡◌, false}
-use Rattle.pipe_base.specs.Below.{any_below}
+use Rattle.pipe_graph.specs.Below.{any_below}
 use Rattle.pipe_topo.specs.Sets.{has}
-use Rattle.pipe_base.specs.Doomed.{is_stranger}
+use Rattle.pipe_graph.specs.Doomed.{is_stranger}
 use Rattle.pipe_failtime.proofs.first.has_strangers.Given as goal
 
 abbrev pub invariant-loop-host : goal.invariant-loop-host

@@ -1,8 +1,8 @@
 use Rattle.std.proofs.Common.{ℕ, ◌&&◌, not, sym, ◌∙◌, arith}
-use Rattle.pipe_paths.proofs.BelowLaws.{any_below_from}
-use Rattle.pipe_paths.proofs.Tests.{and_both, not_gives}
+use Rattle.pipe_graph.proofs.BelowLaws.{any_below_from}
+use Rattle.pipe_graph.proofs.Tests.{and_both, not_gives}
 use Rattle.pipe_topo.specs.Sets.{has}
-use Rattle.pipe_base.specs.Doomed.{are_partners}
+use Rattle.pipe_graph.specs.Doomed.{are_partners}
 use Rattle.pipe_failtime.proofs.first.lacks_partner.Goals as goal
 
 pub returns-then-not-are_partners : goal.returns-then-not-are_partners

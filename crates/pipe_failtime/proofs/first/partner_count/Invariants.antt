@@ -1,7 +1,7 @@
 use Rattle.std.proofs.Common.{◌≡◌, ℕ, ◌≤◌, ◌&&◌}
 use Rattle.pipe_topo.specs.Sets.{has}
-use Rattle.pipe_base.specs.Count.{count_below}
-use Rattle.pipe_base.specs.Doomed.{are_partners}
+use Rattle.pipe_graph.specs.Count.{count_below}
+use Rattle.pipe_graph.specs.Doomed.{are_partners}
 use Rattle.pipe_failtime.proofs.first.partner_count.Given as goal
 
 abbrev pub invariant-loop-other : goal.invariant-loop-other

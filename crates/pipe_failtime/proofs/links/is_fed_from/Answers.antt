@@ -1,8 +1,8 @@
 use Rattle.std.proofs.Common.{◌≡◌, ℕ, ◌==◌, ◌&&◌, ◌||◌, Bool, sym, ap, ◌∙◌, arith}
-use Rattle.pipe_base.specs.Graph.{is_half}
-use Rattle.pipe_base.specs.Reach.{reaches}
-use Rattle.pipe_paths.proofs.BelowLaws.{any_below_from}
-use Rattle.pipe_paths.proofs.Tests.{and_both}
+use Rattle.pipe_graph.specs.Graph.{is_half}
+use Rattle.pipe_graph.specs.Reach.{reaches}
+use Rattle.pipe_graph.proofs.BelowLaws.{any_below_from}
+use Rattle.pipe_graph.proofs.Tests.{and_both}
 use Rattle.pipe_topo.specs.Sets.{has}
 use Rattle.pipe_failtime.proofs.links.is_fed_from.Goals as goal
 

@@ -1,7 +1,7 @@
 use Rattle.std.proofs.Common.{◌≡◌, ℕ, ◌==◌, ◌&&◌, ◌||◌, false}
-use Rattle.pipe_base.specs.Below.{any_below}
-use Rattle.pipe_base.specs.Graph.{is_half}
-use Rattle.pipe_base.specs.Reach.{reaches}
+use Rattle.pipe_graph.specs.Below.{any_below}
+use Rattle.pipe_graph.specs.Graph.{is_half}
+use Rattle.pipe_graph.specs.Reach.{reaches}
 use Rattle.pipe_topo.specs.Sets.{has}
 use Rattle.pipe_failtime.proofs.links.is_fed_from.Given as goal
 

@@ -1,6 +1,6 @@
 use Rattle.std.proofs.Common.{◌≡◌, ℕ, ◌+◌, ◌<◌, ◌&&◌, not, Bool, List, length, sym, subst, ap, ◌∙◌, arith}
-use Rattle.pipe_base.specs.Graph.{tail_of}
-use Rattle.pipe_base.specs.Useless.{is_useless}
+use Rattle.pipe_graph.specs.Graph.{tail_of}
+use Rattle.pipe_graph.specs.Useless.{is_useless}
 use Rattle.pipe_topo.specs.Sets.{has}
 use Rattle.pipe_failtime.specs.Filled.{IsFilled}
 use Rattle.pipe_failtime.proofs.FilledLaws.{filled_in, filled_out}

@@ -1,7 +1,7 @@
 use Rattle.std.proofs.Common.{length}
 use Rattle.pipe_topo.specs.Sets.{has}
 use Rattle.pipe_failtime.specs.Filled.{IsFilled}
-use Rattle.pipe_base.specs.Useless.{is_useless}
+use Rattle.pipe_graph.specs.Useless.{is_useless}
 use Rattle.pipe_failtime.proofs.links.useless_by.Given as goal
 
 abbrev pub invariant-loop-link : goal.invariant-loop-link

@@ -1,5 +1,5 @@
 use Rattle.std.proofs.Common.{◌≡◌, ℕ, ◌+◌, Bool, List, sym, subst, ◌∙◌, arith}
-use Rattle.pipe_base.specs.Reach.{reaches}
+use Rattle.pipe_graph.specs.Reach.{reaches}
 use Rattle.pipe_topo.specs.Sets.{has}
 use Rattle.pipe_topo.proofs.ReachLaws.{near_is_reach}
 use Rattle.pipe_failtime.specs.Filled.{IsFilled}

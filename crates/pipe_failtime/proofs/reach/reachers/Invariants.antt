@@ -1,5 +1,5 @@
 use Rattle.std.proofs.Common.{ℕ}
-use Rattle.pipe_base.specs.Reach.{reaches}
+use Rattle.pipe_graph.specs.Reach.{reaches}
 use Rattle.pipe_topo.specs.Sets.{has}
 use Rattle.pipe_failtime.specs.Filled.{IsFilled}
 use Rattle.pipe_failtime.proofs.reach.reachers.Given as goal

@@ -2,7 +2,7 @@ use Rattle.std.proofs.Common.{length}
 use Rattle.pipe_topo.specs.Reports.{report_of}
 use Rattle.pipe_topo.specs.Sets.{has}
 use Rattle.pipe_failtime.specs.Filled.{IsFilled}
-use Rattle.pipe_base.specs.Reported.{unreported}
+use Rattle.pipe_graph.specs.Reported.{unreported}
 use Rattle.pipe_failtime.proofs.reported.unreported.Given as goal
 
 abbrev pub invariant-loop-link : goal.invariant-loop-link

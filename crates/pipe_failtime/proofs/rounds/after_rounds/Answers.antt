@@ -1,7 +1,7 @@
 use Rattle.std.proofs.Common.{◌≡◌, ℕ, ◌+◌, ◌-◌, Bool, length, true, Some, None, sym, ap, subst, ◌∙◌, arith}
 use Rattle.std.proofs.lemmas.List.{length-set}
 use Rattle.pipe_topo.specs.Sets.{has}
-use Rattle.pipe_base.specs.Doomed.{doomed, is_left}
+use Rattle.pipe_graph.specs.Doomed.{doomed, is_left}
 use Rattle.pipe_failtime.specs.First.{next_to_go}
 use Rattle.pipe_failtime.proofs.FirstLaws.{next_inside}
 use Rattle.pipe_failtime.proofs.RoundLaws.{rounds_over, rounds_turn}

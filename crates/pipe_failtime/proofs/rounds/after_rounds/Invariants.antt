@@ -1,6 +1,6 @@
 use Rattle.std.proofs.Common.{◌≡◌, ◌-◌, length}
 use Rattle.pipe_topo.specs.Sets.{has}
-use Rattle.pipe_base.specs.Doomed.{after_rounds, doomed}
+use Rattle.pipe_graph.specs.Doomed.{after_rounds, doomed}
 use Rattle.pipe_failtime.proofs.rounds.after_rounds.Given as goal
 
 abbrev pub invariant-loop : goal.invariant-loop

@@ -1,9 +1,9 @@
 use Rattle.std.proofs.Common.{ℕ, Bool, List, ap, ◌∙◌}
 use Rattle.pipe_topo.specs.Reports.{report_of}
 use Rattle.pipe_topo.specs.Sets.{has}
-use Rattle.pipe_base.specs.Doomed.{doomed}
+use Rattle.pipe_graph.specs.Doomed.{doomed}
 use Rattle.pipe_failtime.specs.Reaching.{Reaching}
-use Rattle.pipe_base.specs.Reported.{unreported}
+use Rattle.pipe_graph.specs.Reported.{unreported}
 use Rattle.pipe_failtime.proofs.rounds.doomed.Goals as goal
 
 pub returns : goal.returns

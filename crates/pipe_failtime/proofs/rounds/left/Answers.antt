@@ -1,6 +1,6 @@
 use Rattle.std.proofs.Common.{Bool, List, sym, subst}
 use Rattle.pipe_topo.specs.Sets.{has}
-use Rattle.pipe_base.specs.Doomed.{is_left}
+use Rattle.pipe_graph.specs.Doomed.{is_left}
 use Rattle.pipe_failtime.specs.Filled.{IsFilled}
 use Rattle.pipe_failtime.proofs.FilledLaws.{filled_none}
 use Rattle.pipe_failtime.proofs.rounds.left.Goals as goal

@@ -1,5 +1,5 @@
 use Rattle.pipe_topo.specs.Sets.{has}
-use Rattle.pipe_base.specs.Doomed.{is_left}
+use Rattle.pipe_graph.specs.Doomed.{is_left}
 use Rattle.pipe_failtime.specs.Filled.{IsFilled}
 use Rattle.pipe_failtime.proofs.rounds.left.Given as goal
 

@@ -25,4 +25,4 @@ returns-in_default c = λ graph node own step is.
     let r : Record = c.args.made.now in
     let count = ap length c.noted.ensures in
     let gone : c.unadopt.new.self ≡ buffers_joined graph node own r = c.unadopt.ensures (buffers_joined graph node own r) r.step.noted count is in
-    gone ∙ still_joined graph node own r (brings_none (moments_of own) r.event r.took c.in_default.not-Link)
+    gone ∙ still_joined graph node own r (brings_none (moments_of graph node own) r.event r.took c.in_default.not-Link)

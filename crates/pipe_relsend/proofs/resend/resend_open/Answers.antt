@@ -1,8 +1,7 @@
 use Rattle.std.proofs.Common.{◌≡◌, ℕ, suc, ◌+◌, ◌∷◌, [], List, drop, map, ap, ◌∙◌, sym, subst, arith}
 use Rattle.pipe_base.specs.declared.name.HostId.{HostId}
 use Rattle.pipe_base.specs.declared.step.Step.{Step}
-use Rattle.pipe_base.specs.ShortestRoute.{picked}
-use Rattle.pipe_base.specs.Ways.{PutsAlone, with_ways}
+use Rattle.pipe_base.specs.Ways.{picked, PutsAlone, with_ways}
 use Rattle.pipe_base.proofs.WayLaws.{alone_more, ways_more}
 use Rattle.pipe_relsend.specs.Header.{packet_again}
 use Rattle.pipe_relsend.specs.Pending.{open_dests}

@@ -1,6 +1,5 @@
 use Rattle.std.proofs.Common.{◌≡◌, ◌+◌, ◌≤◌, drop, length, map}
-use Rattle.pipe_base.specs.ShortestRoute.{picked}
-use Rattle.pipe_base.specs.Ways.{PutsAlone, with_ways}
+use Rattle.pipe_base.specs.Ways.{picked, PutsAlone, with_ways}
 use Rattle.pipe_relsend.specs.Header.{packet_again}
 use Rattle.pipe_relsend.specs.Pending.{open_dests}
 use Rattle.pipe_relsend.proofs.resend.resend_open.Given as goal

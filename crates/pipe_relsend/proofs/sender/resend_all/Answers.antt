@@ -1,7 +1,6 @@
 use Rattle.std.proofs.Common.{◌≡◌, ℕ, suc, ◌+◌, ◌∷◌, List, drop, flat_map, ap, ◌∙◌, sym, subst, arith, drop-cons}
 use Rattle.pipe_base.specs.declared.packet.Packet.{Packet}
-use Rattle.pipe_base.specs.ShortestRoute.{picked}
-use Rattle.pipe_base.specs.Ways.{PutsAlone, with_ways}
+use Rattle.pipe_base.specs.Ways.{picked, PutsAlone, with_ways}
 use Rattle.pipe_base.proofs.WayLaws.{alone_more, ways_append}
 use Rattle.pipe_relsend.specs.Header.{fields_of}
 use Rattle.pipe_relsend.specs.Pending.{Pending, owed}

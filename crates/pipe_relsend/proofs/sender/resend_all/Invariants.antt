@@ -1,7 +1,6 @@
 use Rattle.std.proofs.Common.{◌≡◌, ◌+◌, ◌*◌, ◌≤◌, drop}
 use Rattle.std.specs.Prelude.{flat_map}
-use Rattle.pipe_base.specs.ShortestRoute.{picked}
-use Rattle.pipe_base.specs.Ways.{PutsAlone, with_ways}
+use Rattle.pipe_base.specs.Ways.{picked, PutsAlone, with_ways}
 use Rattle.pipe_relsend.specs.Header.{fields_of}
 use Rattle.pipe_relsend.specs.Pending.{owed}
 use Rattle.pipe_relsend.proofs.sender.resend_all.Given as goal

@@ -1,5 +1,5 @@
 use Rattle.std.proofs.Common.{◌∙◌}
-use Rattle.pipe_paths.proofs.RouteLaws.{firsts_alike}
+use Rattle.pipe_graph.proofs.RouteLaws.{firsts_alike}
 use Rattle.pipe_topo.specs.Sets.{has, lacks}
 use Rattle.pipe_route.proofs.FirstsLaws.{rest_lacks, hosts_more}
 use Rattle.pipe_route.proofs.firsts.firsts_by_host.Goals as goal

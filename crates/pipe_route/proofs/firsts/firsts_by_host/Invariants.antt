@@ -1,6 +1,6 @@
 use Rattle.std.proofs.Common.{◌≡◌, ℕ, map}
 use Rattle.std.specs.List.{range_with_len}
-use Rattle.pipe_base.specs.ShortestRoute.{firsts_of}
+use Rattle.pipe_graph.specs.ShortestRoute.{firsts_of}
 use Rattle.pipe_topo.specs.Sets.{lacks}
 use Rattle.pipe_route.proofs.firsts.firsts_by_host.Given as goal
 

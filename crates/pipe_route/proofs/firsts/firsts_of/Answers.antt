@@ -1,7 +1,7 @@
 use Rattle.std.proofs.Common.{◌≡◌, filter, take, ◌∙◌}
 use Rattle.std.proofs.lemmas.List.{take_all}
 use Rattle.pipe_base.specs.declared.name.LinkId.{LinkId}
-use Rattle.pipe_base.specs.Graph.{outs_of}
+use Rattle.pipe_graph.specs.Graph.{outs_of}
 use Rattle.pipe_topo.specs.Sets.{has}
 use Rattle.pipe_route.specs.Firsts.{is_first}
 use Rattle.pipe_route.proofs.FirstsLaws.{firsts_are}

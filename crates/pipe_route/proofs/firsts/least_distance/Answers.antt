@@ -1,5 +1,5 @@
 use Rattle.std.proofs.Common.{◌+◌, ℕ, get_or, take, refl, sym, subst}
-use Rattle.pipe_base.specs.Graph.{link_id}
+use Rattle.pipe_graph.specs.Graph.{link_id}
 use Rattle.pipe_topo.specs.Sets.{has}
 use Rattle.pipe_route.specs.Firsts.{IsLeast}
 use Rattle.pipe_route.proofs.FirstsLaws.{least_more, outs_begin}

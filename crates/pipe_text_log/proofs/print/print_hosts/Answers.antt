@@ -1,5 +1,5 @@
 use Rattle.std.proofs.Common.{◌≡◌, ℕ, ◌+◌, suc, List, ◌++◌, arith, rules, ap, sym, subst, ◌∙◌, append_assoc, slice_index_or}
-use Rattle.pipe_text_log.specs.Collected.{AreLogsOf}
+use Rattle.pipe_model.specs.Collected.{AreLogsOf}
 use Rattle.pipe_text_log.specs.LogText.{host_text, hosts_text}
 use Rattle.pipe_text_log.proofs.print.print_hosts.Goals as goal
 

@@ -1,7 +1,7 @@
 use Rattle.std.proofs.Common.{◌≡◌, ◌++◌, List}
-use Rattle.pipe_base.specs.Graph.{Graph}
+use Rattle.pipe_graph.specs.Graph.{Graph}
 use Rattle.pipe_model.specs.declared.record.Record.{Record}
-use Rattle.pipe_text_log.specs.Collected.{AreLogs}
+use Rattle.pipe_model.specs.Collected.{AreLogs}
 use Rattle.pipe_text_log.specs.LogText.{hosts_text}
 use Rattle.pipe_text_log.proofs.print.print_hosts.Given as goal
 

@@ -1,6 +1,6 @@
 use Rattle.std.proofs.Common.{◌≡◌, ◌++◌, drop}
 use Rattle.std.specs.List.{flat_map}
-use Rattle.pipe_text_log.specs.Collected.{entries}
+use Rattle.pipe_model.specs.Collected.{entries}
 use Rattle.pipe_text_log.specs.LogText.{entry_text}
 use Rattle.pipe_text_log.proofs.print.print_service.Given as goal
 

@@ -22,7 +22,7 @@ returns-clause-ok c =
     let words : map (λ word. word.now) c.deref.result.now ≡ words_of c.args.line.now
     = ap (map (λ word. word.now)) c.deref.ensures.value ∙ c.in_ok-words.ensures in
     let says : built c.in_ok-names.names c.in_ok-plan.plan ≡ star_described (star_of (words_of c.args.line.now)) =
-    (λ i. built (c.in_ok-names.ensures i) (c.in_ok-plan.ensures i))
+    (λ i. built (c.in_ok-names.ensures.names i) (c.in_ok-plan.ensures i))
     ∙ ap star_described (sym c.in-Some.is ∙ c.star_of.ensures.value ∙ ap star_of words) in
     subst (λ (described : Result Described PlanFault). IfOk c.build.result (IsInput described)) says c.build.ensures.ok
 
@@ -31,7 +31,7 @@ returns-clause-fault c =
     let words : map (λ word. word.now) c.deref.result.now ≡ words_of c.args.line.now
     = ap (map (λ word. word.now)) c.deref.ensures.value ∙ c.in_ok-words.ensures in
     let says : built c.in_ok-names.names c.in_ok-plan.plan ≡ star_described (star_of (words_of c.args.line.now)) =
-    (λ i. built (c.in_ok-names.ensures i) (c.in_ok-plan.ensures i))
+    (λ i. built (c.in_ok-names.ensures.names i) (c.in_ok-plan.ensures i))
     ∙ ap star_described (sym c.in-Some.is ∙ c.star_of.ensures.value ∙ ap star_of words) in
     subst (λ (described : Result Described PlanFault). IfErr c.build.result (λ error. (fault : PlanFault) → error ≡ Plan fault → described ≡ Err fault)) says
     c.build.ensures.fault

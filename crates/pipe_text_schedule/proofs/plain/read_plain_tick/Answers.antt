@@ -8,4 +8,4 @@ returns-clause-event c =
     let now = c.in_ok-now.ensures.some in
     let split : c.args.text.now ≡ c.in_ok-node.node.now ++ 32 ∷ c.in_ok-node.rest.now = cc (cut.0, c.if-stop-ne32.false) in
     tick_plain c.args.topology.now c.args.names.now c.args.text.now c.in_ok-node.rest.now c.in_ok-now.rest.now c.in_ok-node.node.now now.0 c.in_ok-node-2.node.0 c.in_ok-now.now
-    split (cut.1, some_bytes (length c.in_ok-node.node.now) (sym c.if-is_empty.ensures)) c.in_ok-node-2.ensures.node now.1 now.2
+    split (cut.1, some_bytes (length c.in_ok-node.node.now) (sym c.if-is_empty.ensures)) c.in_ok-node-2.ensures.node now.1 (rw c.top.ensures.value at now.2)

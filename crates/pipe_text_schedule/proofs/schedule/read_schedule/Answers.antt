@@ -16,7 +16,6 @@ pub lines-init : goal.lines-init
 lines-init c = record {
   same = ap (λ es. after_events es (schedule_of c.args.topology.now c.args.names.now c.args.first (lines c.args.text.now))) c.new-events.ensures ∙ after_none _;
   known = subst (All (IsOfGraph c.args.topology.now)) (sym c.new-events.ensures) (All-nil (IsOfGraph c.args.topology.now));
-  nodes = c.no_slots-slots.ensures c.args.topology.now c.args.names.now;
   within = omega arith;
 }
 
@@ -27,6 +26,5 @@ lines-preserved c =
       same = first_more c.args.topology.now c.args.names.now c.lines.events c.add.new.events c.in-Ok.read.0 c.lines.line c.lines.rest.now c.in-Ok.read.1.now _
           c.in-Ok.ensures.event c.in_ok-add.ensures c.lines.invariant.same;
       known = known_more (IsOfGraph c.args.topology.now) c.lines.events c.add.new.events c.in-Ok.read.0 c.in_ok-add.ensures c.lines.invariant.known c.in-Ok.ensures.known;
-      nodes = c.read_first_line.ensures.nodes;
       within = omega (arith, shorter);
     }

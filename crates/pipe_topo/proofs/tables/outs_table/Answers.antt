@@ -1,7 +1,7 @@
 use Rattle.std.proofs.Common.{◌+◌, subst, sym, refl, List}
 use Rattle.pipe_base.specs.declared.name.LinkId.{LinkId}
 use Rattle.pipe_topo.specs.Tables.{IsListed, tail_at}
-use Rattle.pipe_base.specs.Graph.{no_link}
+use Rattle.pipe_graph.specs.Graph.{no_link}
 use Rattle.pipe_topo.proofs.TableLaws.{listed_more}
 use Rattle.pipe_topo.proofs.tables.outs_table.Goals as goal
 

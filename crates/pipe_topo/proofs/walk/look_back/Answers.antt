@@ -1,7 +1,7 @@
 use Rattle.std.proofs.Common.{◌≡◌, ◌<◌, List, length, take, get_or, subst, ◌∙◌, refl, arith}
 use Rattle.std.proofs.lemmas.List.{take_all}
 use Rattle.pipe_base.specs.declared.name.LinkId.{LinkId}
-use Rattle.pipe_base.specs.Graph.{link_id, tail_of, ins_of}
+use Rattle.pipe_graph.specs.Graph.{link_id, tail_of, ins_of}
 use Rattle.pipe_topo.specs.Sets.{has}
 use Rattle.pipe_topo.proofs.WalkLaws.{IsLooking, looking_turn, looks_work, ins_end, walk_done}
 use Rattle.pipe_topo.proofs.walk.look_back.Goals as goal

@@ -3,7 +3,7 @@ use Rattle.std.proofs.lemmas.List.Elements.{All-nil}
 use Rattle.pipe_base.specs.declared.name.LinkId.{LinkId}
 use Rattle.pipe_base.specs.declared.packet.Packet.{Packet}
 use Rattle.pipe_base.specs.declared.step.Step.{Step}
-use Rattle.pipe_base.specs.Graph.{Graph}
+use Rattle.pipe_graph.specs.Graph.{Graph}
 use Rattle.pipe_control.specs.declared.controller.Controller.{Controller}
 use Rattle.pipe_control.specs.Known as control
 use Rattle.pipe_control.specs.Known.{Fits, view_of}
@@ -14,7 +14,7 @@ use Rattle.pipe_model.specs.Controller.{decision}
 use Rattle.pipe_model.specs.Decision.{after_decision}
 use Rattle.pipe_model.specs.Items.{IsOver}
 use Rattle.pipe_world.specs.Decision.{decided}
-use Rattle.pipe_world.specs.Node.{record_of}
+use Rattle.pipe_model.specs.Records.{record_of}
 use Rattle.pipe_world.specs.Queues.{AreKnown, Stand}
 use Rattle.pipe_world.proofs.Decisions.{messages_few}
 use Rattle.pipe_world.proofs.event.decide.Goals as goal

@@ -1,7 +1,7 @@
 use Rattle.std.proofs.Common.{◌≡◌, ℕ, List, get_or, length, reverse, refl, subst, sym, ap, ◌∙◌}
 use Rattle.std.proofs.lemmas.List.{get_or_push}
 use Rattle.std.proofs.lemmas.Result.{IfErr-weaker, on_ok_weaker}
-use Rattle.pipe_base.specs.Graph.{Graph}
+use Rattle.pipe_graph.specs.Graph.{Graph}
 use Rattle.pipe_control.specs.declared.controller.Controller.{Controller}
 use Rattle.pipe_control.specs.Known as control
 use Rattle.pipe_model.specs.declared.event.Event.{Event}
@@ -40,13 +40,13 @@ undecided_of _ other = tt
 heard_runs : (graph : Graph) (nodes : List NodeState) (lists : Waits) (before after : Controller) (old new : List Record) (event : Event) (d : Record)
     → control.Stands graph (view graph (reverse old)) before → Stands graph nodes lists new → IsUndecided event → (added : AddsEvent old new event)
     → ((g : Graph) (v : View) → IsUndecided (get_or new (length old) d).event → control.Stands g v before
-    → control.Stands g (after_event g (get_or new (length old) d).event (get_or new (length old) d).took v) after)
+    → control.Stands g (after_event g (get_or new (length old) d).event (get_or new (length old) d).took (get_or new (length old) d).step.outcome v) after)
     → RunsFor graph nodes lists after new
 heard_runs graph nodes lists before after old new event d knows keeps undecided added hears = record {
   keeps = keeps;
   controller_is =
       subst (λ (past : List Record). control.Stands graph (view graph past) after) (sym (ap reverse added.appended ∙ history_push old added.added))
-      (subst (λ (r : Record). control.Stands graph (after_event graph r.event r.took (view graph (reverse old))) after) read
+      (subst (λ (r : Record). control.Stands graph (after_event graph r.event r.took r.step.outcome (view graph (reverse old))) after) read
       (hears graph (view graph (reverse old)) (subst (λ (r : Record). IsUndecided r.event) (sym read) (subst IsUndecided (sym added.event_is) undecided)) knows));
 }
   where
@@ -110,5 +110,5 @@ returns c =
           heard_runs c.args.topology.now c.happen.new.nodes c.happen.new.queues c.args.controller.now c.hear.new.controller old new c.args.event c.index-as_slice-at.result
           c.requires.runs.controller_is c.happen.ensures.stands (undecided_of c.args.event c.in_default.not-Decide) c.in_ok-happen.ensures.ok
           (subst (λ (r : Record). (g : Graph) (v : View) → IsUndecided r.event → control.Stands g v c.args.controller.now
-          → control.Stands g (after_event g r.event r.took v) c.hear.new.controller) read c.hear.ensures);
+          → control.Stands g (after_event g r.event r.took r.step.outcome v) c.hear.new.controller) read c.hear.ensures);
     }

@@ -1,11 +1,12 @@
 use Rattle.std.proofs.Common.{◌≡◌, ℕ, List, ◌∷◌, length, get_or, reverse, arith, refl, sym, subst, ap, ◌∙◌}
 use Rattle.std.proofs.lemmas.List.{get_or_push}
-use Rattle.pipe_base.specs.Graph.{Graph}
+use Rattle.pipe_graph.specs.Graph.{Graph}
 use Rattle.pipe_model.specs.declared.record.Record.{Record}
 use Rattle.pipe_model.specs.Acting.{ComesIn, own}
 use Rattle.pipe_model.specs.Run.{IsNodeStep}
 use Rattle.pipe_world.specs.declared.node.NodeState.{NodeState}
-use Rattle.pipe_world.specs.Node.{Stands, StandsWith, record_of}
+use Rattle.pipe_world.specs.Node.{Stands, StandsWith}
+use Rattle.pipe_model.specs.Records.{record_of}
 use Rattle.pipe_world.specs.Queues.{AreKnown}
 use Rattle.pipe_world.proofs.Passing.{in_place_there}
 use Rattle.pipe_world.proofs.StepPuts.{items_few, puts_known}

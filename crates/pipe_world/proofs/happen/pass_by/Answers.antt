@@ -1,7 +1,7 @@
 use Rattle.std.proofs.Common.{◌≡◌, List, ◌∷◌, [], ◌++◌, Ok, Err, subst, ap, ◌∙◌}
 use Rattle.std.specs.Prelude.{Result, OnOk}
 use Rattle.pipe_base.specs.declared.step.Step.{Step}
-use Rattle.pipe_base.specs.Graph.{Graph}
+use Rattle.pipe_graph.specs.Graph.{Graph}
 use Rattle.pipe_model.specs.declared.record.Record.{Record}
 use Rattle.pipe_world.specs.Queues.{Stand}
 use Rattle.pipe_world.specs.Turn.{passing_record}

@@ -8,9 +8,9 @@ use Rattle.pipe_base.specs.declared.name.LinkId.{LinkId}
 use Rattle.pipe_base.specs.declared.name.NodeId.{NodeId}
 use Rattle.pipe_base.specs.declared.packet.Packet.{Packet}
 use Rattle.pipe_base.specs.declared.step.Step.{Step}
-use Rattle.pipe_base.specs.Graph.{Graph, ins_of}
+use Rattle.pipe_graph.specs.Graph.{Graph, ins_of}
 use Rattle.pipe_base.specs.Moment.{has_link}
-use Rattle.pipe_host.specs.Steps.{sent, taken, told, ticked}
+use Rattle.pipe_model.specs.Records.{told, sent, taken, ticked, record_of}
 use Rattle.pipe_model.specs.declared.event.Event.{Event}
 use Rattle.pipe_model.specs.declared.event.Event.TheVariants.{ControlTake, Send, Take, Crash, Tick}
 use Rattle.pipe_model.specs.declared.record.Record.{Record}
@@ -19,7 +19,7 @@ use Rattle.pipe_model.specs.declared.record.Took.TheVariants.{Nothing, Link, Mes
 use Rattle.pipe_model.specs.Acting.{ComesIn}
 use Rattle.pipe_model.specs.Event.{IsOfGraph}
 use Rattle.pipe_world.specs.declared.node.Node.{Node}
-use Rattle.pipe_world.specs.Node.{Stands, Works, record_of}
+use Rattle.pipe_world.specs.Node.{Stands, Works}
 use Rattle.pipe_world.specs.Turn.{ActsAt}
 use Rattle.pipe_world.proofs.WorldSteps.{comes_in}
 use Rattle.pipe_world.proofs.happen.work_at.Goals as goal

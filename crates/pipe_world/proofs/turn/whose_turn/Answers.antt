@@ -1,7 +1,7 @@
 use Rattle.std.proofs.Common.{◌≡◌, true, sym, subst}
 use Rattle.std.specs.List.{All}
 use Rattle.std.specs.Prelude.{slice_index_or}
-use Rattle.pipe_base.specs.Graph.{Graph}
+use Rattle.pipe_graph.specs.Graph.{Graph}
 use Rattle.pipe_net.specs.Waits.{Waits}
 use Rattle.pipe_world.specs.Turn.{IsFound, IsTurn, ReachesKnown}
 use Rattle.pipe_world.specs.World.{Keeps}

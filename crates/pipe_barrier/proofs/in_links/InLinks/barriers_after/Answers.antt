@@ -2,7 +2,8 @@ use Rattle.std.proofs.Common.{◌≡◌, ℕ, List, [], length, sym, subst, ◌�
 use Rattle.std.proofs.lemmas.List.{nil_from_length}
 use Rattle.std.proofs.lemmas.Result.{IfOk-weaker}
 use Rattle.pipe_base.specs.declared.name.LinkId.{LinkId}
-use Rattle.pipe_base.specs.Moment.{Moment, with_downed, with_dropped}
+use Rattle.pipe_base.specs.Moment.{Moment, with_downed}
+use Rattle.pipe_base.specs.Entries.{with_entries}
 use Rattle.pipe_base.specs.Silence.{QuietCall}
 use Rattle.pipe_barrier.specs.declared.registers.Barriers.{Barriers}
 use Rattle.pipe_barrier.specs.InLinks.{Stands}
@@ -19,7 +20,7 @@ returns-then-is_empty c =
     (λ (b : Barriers). (ins : List LinkId) (patience : ℕ) (moments : List Moment) (calls : List QuietCall)
     → Stands ins patience c.args.self.now moments calls → AreBarriers ins (with_downed marks moments) b)
     (λ (b : Barriers). (ins : List LinkId) (patience : ℕ) (moments : List Moment) (calls : List QuietCall)
-    → Stands ins patience c.args.self.now moments calls → AreBarriers ins (with_dropped drops (with_downed marks moments)) b)
+    → Stands ins patience c.args.self.now moments calls → AreBarriers ins (with_entries ins drops (with_downed marks moments)) b)
     (λ b are ins patience moments calls stands.
-    subst (λ (ms : List Moment). AreBarriers ins ms b) (sym (none_dropped drops (with_downed marks moments) none)) (are ins patience moments calls stands))
+    subst (λ (ms : List Moment). AreBarriers ins ms b) (sym (none_dropped ins drops (with_downed marks moments) none)) (are ins patience moments calls stands))
     c.barriers_without.ensures

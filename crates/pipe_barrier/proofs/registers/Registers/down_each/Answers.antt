@@ -1,6 +1,5 @@
-use Rattle.std.proofs.Common.{List, sym, subst}
+use Rattle.std.proofs.Common.{List, sym, subst, take}
 use Rattle.pipe_base.specs.Moment.{Moment, with_downed}
-use Rattle.std.proofs.Common.{take}
 use Rattle.pipe_barrier.specs.Registers.{Stands}
 use Rattle.pipe_barrier.proofs.InLinkLaws.{downed_turn}
 use Rattle.pipe_barrier.proofs.registers.Registers.down_each.Goals as goal

@@ -1,7 +1,7 @@
 use Rattle.std.proofs.Common.{◌+◌, ◌-◌, ◌<◌, ◌++◌, List, length, map, filter, sym, ap, ◌∙◌, arith}
 use Rattle.std.specs.List.{range_with_len}
 use Rattle.pipe_base.specs.declared.name.LinkId.{LinkId}
-use Rattle.pipe_base.specs.Graph.{link_id}
+use Rattle.pipe_graph.specs.Graph.{link_id}
 use Rattle.pipe_control.specs.Known.{view_of}
 use Rattle.pipe_control.proofs.ListLaws.{from_next, pass_in, pass_out}
 use Rattle.pipe_model.specs.Decision.{is_dead}

@@ -1,6 +1,6 @@
 use Rattle.std.proofs.Common.{◌≡◌, ◌-◌, ◌++◌, length, map, filter}
 use Rattle.std.specs.List.{range_with_len}
-use Rattle.pipe_base.specs.Graph.{all_links, link_id}
+use Rattle.pipe_graph.specs.Graph.{all_links, link_id}
 use Rattle.pipe_control.specs.Known.{view_of}
 use Rattle.pipe_model.specs.Decision.{is_dead}
 use Rattle.pipe_control.proofs.controller.Controller.dead_links.Given as goal

@@ -1,6 +1,6 @@
 use Rattle.std.proofs.Common.{ℕ, Bool, None, length, refl, sym, ap, ◌∙◌}
 use Rattle.std.proofs.lemmas.List.{length-replicate}
-use Rattle.pipe_base.specs.Useless.{is_useless}
+use Rattle.pipe_graph.specs.Useless.{is_useless}
 use Rattle.pipe_control.specs.declared.controller.Controller.{Controller}
 use Rattle.pipe_control.specs.Known.{view_of}
 use Rattle.pipe_control.proofs.DeadLaws.{drop_known}

@@ -1,6 +1,6 @@
 use Rattle.std.proofs.Common.{◌≡◌, ℕ, Bool, true, false, if◌then◌else◌, Option, None, IfOk, sym, ap, subst, ◌∙◌}
 use Rattle.pipe_base.specs.declared.name.Ts.{Ts}
-use Rattle.pipe_base.specs.Cut.{is_cut}
+use Rattle.pipe_graph.specs.Cut.{is_cut}
 use Rattle.pipe_control.specs.Known.{view_of}
 use Rattle.pipe_model.specs.Decision.{time_at}
 use Rattle.pipe_model.specs.View.{intact, is_kept}

@@ -14,8 +14,8 @@ returns c =
       live = c.in_ok-all.field-0;
       reports = c.in_ok-none.field-0;
       doomed = c.none-2.result;
-      announced = c.new.result;
-      dropped = c.new-2.result;
+      announced = c.empty.result;
+      dropped = c.empty-2.result;
       done = c.in_ok-none-2.field-0;
       gone = c.in_ok-none-3.field-0;
     } in
@@ -29,6 +29,6 @@ returns c =
         all = c.links-links.ensures.value;
         gone = ap length c.in_ok-none-3.ensures ∙ length-replicate {A = ℕ} c.nodes.result 0 ∙ c.nodes.ensures.value;
       };
-      known = first_known c.args.topology.now made links c.hosts.result (64 - c.hosts.result) c.nodes.result c.first.ensures c.in_ok-all.ensures c.in_ok-none.ensures c.none-2.ensures c.new.ensures
-          c.new-2.ensures c.in_ok-none-2.ensures c.in_ok-none-3.ensures c.links-links.ensures.value c.hosts.ensures.value;
+      known = first_known c.args.topology.now made links c.hosts.result (64 - c.hosts.result) c.nodes.result c.first.ensures c.in_ok-all.ensures c.in_ok-none.ensures c.none-2.ensures c.empty.ensures
+          c.empty-2.ensures c.in_ok-none-2.ensures c.in_ok-none-3.ensures c.links-links.ensures.value c.hosts.ensures.value;
     }

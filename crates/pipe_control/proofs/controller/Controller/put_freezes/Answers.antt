@@ -2,7 +2,7 @@ use Rattle.std.proofs.Common.{◌+◌, ◌-◌, ◌<◌, ◌++◌, ◌∷◌, []
 use Rattle.std.specs.List.{range_with_len}
 use Rattle.pipe_base.specs.declared.control.Addressed.{Addressed}
 use Rattle.pipe_base.specs.declared.name.LinkId.{LinkId}
-use Rattle.pipe_base.specs.Graph.{link_id}
+use Rattle.pipe_graph.specs.Graph.{link_id}
 use Rattle.pipe_control.specs.Known.{view_of}
 use Rattle.pipe_control.proofs.ListLaws.{from_next, turn_in, turn_out}
 use Rattle.pipe_model.specs.Decision.{freeze, is_frozen}

@@ -1,6 +1,6 @@
 use Rattle.std.proofs.Common.{◌≡◌, ◌-◌, ◌++◌, length, map, filter}
 use Rattle.std.specs.List.{range_with_len}
-use Rattle.pipe_base.specs.Graph.{link_id}
+use Rattle.pipe_graph.specs.Graph.{link_id}
 use Rattle.pipe_control.specs.Known.{view_of}
 use Rattle.pipe_model.specs.Decision.{freeze, freezes, is_frozen}
 use Rattle.pipe_control.proofs.controller.Controller.put_freezes.Given as goal

@@ -6,7 +6,7 @@ use Rattle.pipe_base.specs.declared.name.Ts.{Ts}
 use Rattle.pipe_base.specs.declared.step.Outcome.TheVariants.{Ok}
 use Rattle.pipe_base.specs.declared.step.Step.{Step}
 use Rattle.pipe_base.specs.Clock.{next_after}
-use Rattle.pipe_base.specs.Graph.{Graph}
+use Rattle.pipe_graph.specs.Graph.{Graph}
 use Rattle.pipe_base.specs.Promise.{promise_of}
 use Rattle.pipe_base.specs.Scattering.{SenderCall}
 use Rattle.pipe_base.specs.Settled.{unsettled}
@@ -30,7 +30,7 @@ returns c =
     → kept ≡ beat graph node.0 own (fields_ticked graph node.0 own c.args.now []) [] [] [])
     (λ kept is graph node own stands settled.
     let calls : List SenderCall = sender_calls graph node.0 own in
-    let clock_is : n ≡ next_after (next own) c.args.now.0 None [] = omega (arith, ap {B = ℕ} (λ (t : Ts). t.0) c.next-next.ensures, c.tick.ensures, stands.next_is) in
+    let clock_is : n ≡ next_after (next graph node.0 own) c.args.now.0 None [] = omega (arith, ap {B = ℕ} (λ (t : Ts). t.0) c.next-next.ensures, c.tick.ensures.next, stands.next_is) in
     is
     ∙ ap {B = Step} (λ (p : ℕ). with_beacons k.links.ways.outs (record { be = n; commit = p }) (quiet_step Ok)) (c.promise.ensures.stands calls stands.sender_is)
     ∙ ap {B = Step} (λ (p : ℕ). with_beacons k.links.ways.outs (record { be = p; commit = promise_of p calls }) (quiet_step Ok)) clock_is

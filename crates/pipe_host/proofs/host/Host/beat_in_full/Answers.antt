@@ -11,15 +11,15 @@ use Rattle.pipe_base.specs.declared.packet.Packet.{Packet}
 use Rattle.pipe_base.specs.declared.step.Outcome.TheVariants.{Ok}
 use Rattle.pipe_base.specs.declared.step.Step.{Step}
 use Rattle.pipe_base.specs.Clock.{next_after, after_logged}
-use Rattle.pipe_base.specs.Graph.{Graph}
+use Rattle.pipe_graph.specs.Graph.{Graph}
 use Rattle.pipe_base.specs.Messages.{AreBelow}
 use Rattle.pipe_base.specs.Packets.{Fields}
 use Rattle.pipe_base.specs.Promise.{promise_of}
 use Rattle.pipe_base.specs.Resends.{resends}
 use Rattle.pipe_base.specs.Scattering.{SenderCall}
-use Rattle.pipe_base.specs.ShortestRoute.{picked, route}
+use Rattle.pipe_graph.specs.ShortestRoute.{route}
+use Rattle.pipe_base.specs.Ways.{picked, with_beacons, with_ways}
 use Rattle.pipe_base.specs.Step.{quiet_step}
-use Rattle.pipe_base.specs.Ways.{with_beacons, with_ways}
 use Rattle.pipe_links.proofs.WayLaws.{ways_are}
 use Rattle.pipe_model.specs.declared.record.Record.{Record}
 use Rattle.pipe_model.specs.Clock.{next}
@@ -55,10 +55,10 @@ returns c =
     let below : AreBelow (2 ^ 64 - 1) log =
     c.in_ok-copy_passed.ensures.within (subst (λ (s : Step). AreBelow (2 ^ 64 - 1) s.logged) (sym c.new-step.ensures) (All-nil (λ (e : Service × Entry). e.1.key.ts.0 < 2 ^ 64 - 1))) in
     let delivered =
-    subst (λ (es : List (Service × Entry)). AreBelow (2 ^ 64 - 1) es → c.deliver.new.clock.next.0 ≡ max c.tick.new.self.next.0 (after_logged es)) c.as_slice.ensures c.deliver.ensures below in
+    subst (λ (es : List (Service × Entry)). AreBelow (2 ^ 64 - 1) es → c.deliver.new.clock.next.0 ≡ max c.tick.new.self.next.0 (after_logged es)) c.as_slice.ensures c.deliver.ensures.next below in
     let told : n ≡ c.deliver.new.clock.next.0 = ap {B = ℕ} (λ (t : Ts). t.0) c.next-next.ensures in
-    let clock_is : n ≡ next_after (next own) c.args.now.0 None (logged_by b k.held) =
-    subst (λ (es : List (Service × Entry)). n ≡ next_after (next own) c.args.now.0 None es) log_is (omega (arith, delivered, told, c.tick.ensures, stands.next_is)) in
+    let clock_is : n ≡ next_after (next graph node.0 own) c.args.now.0 None (logged_by b k.held) =
+    subst (λ (es : List (Service × Entry)). n ≡ next_after (next graph node.0 own) c.args.now.0 None es) log_is (omega (arith, delivered, told, c.tick.ensures.next, stands.next_is)) in
     let base : Step = record (quiet_step Ok) { downed = marks; control = tells; logged = log } in
     let again : HostId → List Packet = λ host. resends calls host f in
     let resent : c.resends.new.step ≡ with_ways (route graph known node.0) (again (record { 0 = node.0 })) base =

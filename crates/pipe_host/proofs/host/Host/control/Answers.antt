@@ -4,14 +4,14 @@ use Rattle.pipe_base.specs.declared.step.Step.{Step}
 use Rattle.pipe_model.specs.declared.record.Record.{Record}
 use Rattle.pipe_model.specs.Run.{IsNodeStep}
 use Rattle.pipe_host.specs.Host.{Does, Stands, StandsWith}
-use Rattle.pipe_host.specs.Steps as steps
+use Rattle.pipe_model.specs.Records as records
 use Rattle.pipe_host.proofs.host.Host.control.Goals as goal
 
 -- the place and what is kept make no difference to what the host keeps
 pub returns-clause-ok : goal.returns-clause-ok
 returns-clause-ok c = λ node own place keep stands.
     let graph = c.args.topology.now in
-    let told : NodeId → Record = λ (n : NodeId). steps.told n c.args.control 0 false c.in_ok-worked.worked in
+    let told : NodeId → Record = λ (n : NodeId). records.told n c.args.control 0 false c.in_ok-worked.worked in
     let works = c.in_ok-worked.ensures.ok node own 0 false stands in
     let rules = (c.in_ok-worked.ensures.ok node own place keep stands).rules in
     let me_is : c.node.result ≡ node = c.node.ensures ∙ (λ i. record { 0 = works.stands.links_are.stands.node_is i }) in
@@ -19,7 +19,7 @@ returns-clause-ok c = λ node own place keep stands.
     (c.follow.ensures graph node.0 own (subst (λ (n : NodeId). StandsWith graph node.0 own (told n) c.work_control.new.self) (sym me_is) works.stands) tt
     (subst (λ (n : NodeId). IsNodeStep graph node.0 own (told n)) (sym me_is) works.rules)) in
     let links = after.links_are in
-    subst (λ (s : Step). Does graph node.0 own (steps.told node c.args.control place keep s) c.follow.new.self) (sym c.into_step.ensures)
+    subst (λ (s : Step). Does graph node.0 own (records.told node c.args.control place keep s) c.follow.new.self) (sym c.into_step.ensures)
     (record {
       rules = rules;
       stands = record {
@@ -33,6 +33,7 @@ returns-clause-ok c = λ node own place keep stands.
           history = (stands.links_are.history, rules);
         };
         next_is = after.next_is;
+        top_is = after.top_is;
         held_are = after.held_are;
         sender_is = after.sender_is;
       };

@@ -1,5 +1,6 @@
-use Rattle.std.proofs.Common.{◌≡◌, ℕ, ◌≤◌, ◌-◌, ◌^◌, List, ◌∷◌, ap, sym, subst, ◌∙◌, arith}
+use Rattle.std.proofs.Common.{IfSome, ◌≡◌, ℕ, ◌≤◌, ◌-◌, ◌^◌, List, ◌∷◌, ap, sym, subst, ◌∙◌, arith}
 use Rattle.pipe_base.specs.declared.control.Announced.{Announced}
+use Rattle.pipe_base.specs.declared.name.Ts.{Ts}
 use Rattle.pipe_base.specs.Clock.{next_after}
 use Rattle.pipe_base.specs.Messages.{AreBelow}
 use Rattle.pipe_base.specs.Scattering.{SenderCall}
@@ -32,8 +33,10 @@ returns c = λ graph node own stands comes step.
     record {
       host = stands.host;
       links_are = after;
-      next_is = c.follow-2.ensures below (stamp_within graph node own r.event r.step.stamped step.stamped_is)
+      next_is = c.follow-2.ensures.next below
+          (subst (λ (n : ℕ). IfSome r.step.stamped (λ ts. ts.0 ≤ n)) (sym stands.top_is) (stamp_within graph node own r.event r.step.stamped step.stamped_is))
           ∙ ap (λ (n : ℕ). next_after n (tick_reading r.event) r.step.stamped r.step.logged) stands.next_is;
+      top_is = ap {B = ℕ} (λ (t : Ts). t.0) c.follow-2.ensures.top ∙ stands.top_is;
       held_are = c.let_out.ensures graph node own bars stands.held_are;
       sender_is = subst (λ (noted : List Announced). sending.Stands (with_noted noted r.step.noted heard) c.note.new.sender) noted_are
           (c.note.ensures heard (c.hear.ensures graph node own begun stands.taking stands.host comes stands.sender_is)

@@ -1,7 +1,7 @@
 use Rattle.std.proofs.Common.{false, sym, subst}
 use Rattle.pipe_base.specs.declared.step.Step.{Step}
 use Rattle.pipe_host.specs.Host.{Does}
-use Rattle.pipe_host.specs.Steps.{taken}
+use Rattle.pipe_model.specs.Records.{taken}
 use Rattle.pipe_host.proofs.host.Host.take.Goals as goal
 
 -- the place and what is kept make no difference to what the host keeps
@@ -25,6 +25,7 @@ returns-clause-ok c = λ graph node own place keep stands comes.
           history = (stands.links_are.history, rules);
         };
         next_is = after.next_is;
+        top_is = after.top_is;
         held_are = after.held_are;
         sender_is = after.sender_is;
       };

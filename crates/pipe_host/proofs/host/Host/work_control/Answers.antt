@@ -13,7 +13,7 @@ use Rattle.pipe_host.specs.declared.buffers.Buffers.{Buffers}
 use Rattle.pipe_host.specs.declared.host.Host.{Host}
 use Rattle.pipe_host.specs.Buffers.{all_noting}
 use Rattle.pipe_host.specs.Host.{buffers_for, buffers_with}
-use Rattle.pipe_host.specs.Steps.{told}
+use Rattle.pipe_model.specs.Records.{told}
 use Rattle.pipe_host.proofs.HostSteps.{IsReady, obeyed_notes, obeys}
 use Rattle.pipe_host.proofs.RecordLaws.{still_noting}
 use Rattle.pipe_host.proofs.host.Host.work_control.Goals as goal
@@ -40,6 +40,7 @@ returns-in-Ok-clause-ok c = λ node own place keep stands.
       host = stands.host;
       links_are = stands.links_are;
       next_is = stands.next_is;
+      top_is = stands.top_is;
       held_are = held_now;
       sender_is = stands.sender_is;
     } in
@@ -61,6 +62,7 @@ returns-in-Ok-clause-ok c = λ node own place keep stands.
         });
         taking = tt;
         next_is = stands.next_is;
+        top_is = stands.top_is;
         held_are = held_now;
         sender_is = stands.sender_is;
         receiver = tt;

@@ -7,7 +7,7 @@ use Rattle.pipe_base.specs.declared.step.Outcome.TheVariants.{Ok}
 use Rattle.pipe_base.specs.declared.step.Step.{Step}
 use Rattle.pipe_base.specs.Packets.{Fields, sent_to}
 use Rattle.pipe_base.specs.Scattering.{SenderCall}
-use Rattle.pipe_base.specs.ShortestRoute.{route}
+use Rattle.pipe_graph.specs.ShortestRoute.{route}
 use Rattle.pipe_base.specs.Step.{quiet_step}
 use Rattle.pipe_base.specs.Ways.{with_ways}
 use Rattle.pipe_links.proofs.WayLaws.{ways_are}
@@ -18,7 +18,7 @@ use Rattle.pipe_model.specs.Clock.{next}
 use Rattle.pipe_model.specs.Moments.{known_drops}
 use Rattle.pipe_model.specs.Sender.{sender_calls, with_begun}
 use Rattle.pipe_relsend.specs.Sending as sending
-use Rattle.pipe_host.specs.Steps.{sent}
+use Rattle.pipe_model.specs.Records.{sent}
 use Rattle.pipe_host.proofs.HostSteps.{links_ready, still_ready}
 use Rattle.pipe_host.proofs.RecordLaws.{still_buffers}
 use Rattle.pipe_host.proofs.SendSteps.{begins, begins_none, refuses, sends, stamp_above_begun}
@@ -45,7 +45,7 @@ returns-in_ok-begin-in-Ok-clause-ok c = λ graph host own stands.
     ∙ ap (λ (h : HostId). with_ways (route graph known host.0) (messages h) base) src_is in
     let stamped_is : step.stamped ≡ Some ts = ap {B = Option Ts} (λ (s : Step). s.stamped) step_is in
     let r : Record = sent host service c.args.now dests step in
-    let above : next own ≤ ts.0 = omega (arith, stamped.stamp_is, stands.next_is) in
+    let above : next graph host.0 own ≤ ts.0 = omega (arith, stamped.stamp_is, stands.next_is) in
     let begun : sending.Stands (with_begun event (Some ts) calls) c.begin.new.sender =
     subst (sending.Stands (with_begun event (Some ts) calls)) (sym c.in_ok-begin-in-Ok.ensures.ok)
     (begins service host c.args.now ts dests calls k.sender stands.sender_is (stamp_above_begun graph host.0 own ts.0 above) c.requires.some) in
@@ -56,6 +56,7 @@ returns-in_ok-begin-in-Ok-clause-ok c = λ graph host own stands.
         links_are = links_ready graph host.0 own r k.links stands.links_are (ap (λ (s : Step). s.dropped) step_is);
         taking = tt;
         next_is = stands.next_is;
+        top_is = stands.top_is;
         held_are = stands.held_are ∙ sym (still_buffers graph host.0 own r refl (ap (λ (s : Step). s.noted) step_is));
         sender_is = subst (λ (o : Option Ts). sending.Stands (with_begun event o calls) c.begin.new.sender) (sym stamped_is) begun;
         receiver = c.requires.some;

@@ -4,7 +4,7 @@ use Rattle.pipe_base.specs.declared.packet.Packet.{Packet}
 use Rattle.pipe_base.specs.declared.step.Fate.{Fate}
 use Rattle.pipe_base.specs.declared.step.Outcome.TheVariants.{Ignored}
 use Rattle.pipe_base.specs.declared.step.Step.{Step}
-use Rattle.pipe_base.specs.Graph.{ins_of}
+use Rattle.pipe_graph.specs.Graph.{ins_of}
 use Rattle.pipe_base.specs.Moment.{has_link, is_up}
 use Rattle.pipe_base.specs.Step.{quiet_step}
 use Rattle.pipe_model.specs.declared.record.Record.{Record}
@@ -15,7 +15,7 @@ use Rattle.pipe_host.specs.declared.buffers.Buffers.{Buffers}
 use Rattle.pipe_host.specs.declared.host.Host.{Host}
 use Rattle.pipe_host.specs.Buffers.{all_burying, all_joined, fate_among, where_mine}
 use Rattle.pipe_host.specs.Host.{Works, buffers_for, buffers_with}
-use Rattle.pipe_host.specs.Steps.{taken}
+use Rattle.pipe_model.specs.Records.{taken}
 use Rattle.pipe_host.proofs.HostSteps.{IsReady, ignores, links_ready, receives, still_ready, up_from}
 use Rattle.pipe_host.proofs.RecordLaws.{buries_mine, held_with}
 use Rattle.pipe_host.proofs.host.Host.work_take.Goals as goal
@@ -24,14 +24,14 @@ pub returns-then-not-is_up-clause-ok : goal.returns-then-not-is_up-clause-ok
 returns-then-not-is_up-clause-ok c = λ graph node own place keep stands comes.
     let link = c.args.link in
     let p : Packet = c.args.packet.now in
-    let down : is_up (moments_of own) link.0 ≡ false =
-    up_from c.is_up.result (has_link link.0 (ins_of graph node)) (is_up (moments_of own) link.0) (c.is_up.ensures graph node own stands.links_are) comes
+    let down : is_up (moments_of graph node own) link.0 ≡ false =
+    up_from c.is_up.result (has_link link.0 (ins_of graph node)) (is_up (moments_of graph node own) link.0) (c.is_up.ensures graph node own stands.links_are) comes
     ∙ c.if-not-is_up.true in
     let r : Record = taken link p place keep (quiet_step Ignored) in
     subst (λ (s : Step). Works graph node own (taken link p place keep s) c.args.self.now) (sym c.quiet.ensures)
     (record {
       rules = ignores graph node own link p place keep stands.host down;
-      stands = still_ready graph node own r c.args.self.now stands stands.links_are (taken_ignored (moments_of own) link p place keep down) refl refl stands.sender_is tt;
+      stands = still_ready graph node own r c.args.self.now stands stands.links_are (taken_ignored (moments_of graph node own) link p place keep down) refl refl stands.sender_is tt;
     })
 
 pub returns-in-Ok-clause-ok : goal.returns-in-Ok-clause-ok
@@ -43,11 +43,11 @@ returns-in-Ok-clause-ok c = λ graph node own place keep stands comes.
     let before : Buffers = buffers_for graph node own in
     let brought : Option Packet = gets_of graph node (Some (link.0, p)) in
     let k : Host = record c.args.self.now { held = c.take_in.new.self } in
-    let up : is_up (moments_of own) link.0 ≡ true =
-    up_from c.is_up.result (has_link link.0 (ins_of graph node)) (is_up (moments_of own) link.0) (c.is_up.ensures graph node own stands.links_are) comes
+    let up : is_up (moments_of graph node own) link.0 ≡ true =
+    up_from c.is_up.result (has_link link.0 (ins_of graph node)) (is_up (moments_of graph node own) link.0) (c.is_up.ensures graph node own stands.links_are) comes
     ∙ c.if-not-is_up.false in
     let r : Record = taken link p place keep step in
-    let got : received own r ≡ Some (link.0, p) = taken_received (moments_of own) link p place keep up in
+    let got : received graph node own r ≡ Some (link.0, p) = taken_received (moments_of graph node own) link p place keep up in
     let fate_is : fate ≡ fate_among before brought =
     c.fate-fate.ensures.value graph node own link stands ∙ ap (λ (h : Buffers). fate_among h brought) stands.held_are in
     let no_news : step.noted ≡ [] = ap (λ (s : Step). s.noted) (c.in-Ok.ensures.step_is graph node own stands.links_are) in
@@ -64,6 +64,7 @@ returns-in-Ok-clause-ok c = λ graph node own place keep stands comes.
       host = stands.host;
       links_are = stands.links_are;
       next_is = stands.next_is;
+      top_is = stands.top_is;
       held_are = held_now;
       sender_is = stands.sender_is;
     } in
@@ -74,6 +75,7 @@ returns-in-Ok-clause-ok c = λ graph node own place keep stands comes.
         links_are = links_ready graph node own r k.links stands.links_are no_drops;
         taking = stands.links_are;
         next_is = stands.next_is;
+        top_is = stands.top_is;
         held_are = held_now;
         sender_is = stands.sender_is;
         receiver = tt;

@@ -8,13 +8,14 @@ use Rattle.pipe_base.specs.declared.name.LinkId.{LinkId}
 use Rattle.pipe_base.specs.declared.name.NodeId.{NodeId}
 use Rattle.pipe_base.specs.declared.name.Ts.{Ts}
 use Rattle.pipe_base.specs.declared.step.Step.{Step}
-use Rattle.pipe_base.specs.Graph.{Graph}
+use Rattle.pipe_graph.specs.Graph.{Graph}
 use Rattle.pipe_base.specs.Settled.{unsettled}
 use Rattle.pipe_model.specs.declared.record.Record.{Record}
 use Rattle.pipe_model.specs.Sender.{sender_calls}
 use Rattle.pipe_host.specs.Buffers.{logged_by}
 use Rattle.pipe_host.specs.Host.{Stands, Works}
-use Rattle.pipe_host.specs.Steps.{beat, fields_ticked, ticked}
+use Rattle.pipe_host.specs.Steps.{beat, fields_ticked}
+use Rattle.pipe_model.specs.Records.{ticked}
 use Rattle.pipe_host.proofs.HostSteps.{ticked_works}
 use Rattle.pipe_host.proofs.host.Host.work_tick.Goals as goal
 

@@ -10,7 +10,7 @@ returns c =
     let graph = c.args.topology.now in
     let set = c.in_ok-dropped.dropped in
     let is : IsSetOf (length graph.links) c.args.known set =
-    subst (λ (known : List LinkId). IsSetOf (length graph.links) known set) c.as_slice.ensures c.in_ok-dropped.ensures in
+    subst (λ (known : List LinkId). IsSetOf (length graph.links) known set) c.as_slice.ensures.value c.in_ok-dropped.ensures in
     record {
       known_are = refl;
       outs_are = c.in_ok-kept_among.ensures ∙ ap (filter (λ (l : LinkId). lacks set l.0)) c.outs.ensures.value ∙ outs_kept graph c.args.node.0 c.args.known set is;

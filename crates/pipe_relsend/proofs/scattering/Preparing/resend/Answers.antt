@@ -3,8 +3,7 @@ use Rattle.std.proofs.lemmas.Result.{on_ok_weaker}
 use Rattle.pipe_base.specs.declared.name.HostId.{HostId}
 use Rattle.pipe_base.specs.declared.packet.Packet.{Packet}
 use Rattle.pipe_base.specs.Packets.{prepare_to}
-use Rattle.pipe_base.specs.Ways.{with_ways}
-use Rattle.pipe_base.specs.ShortestRoute.{picked}
+use Rattle.pipe_base.specs.Ways.{with_ways, picked}
 use Rattle.pipe_relsend.specs.Header.{fields_of}
 use Rattle.pipe_relsend.specs.Pending.{Pending, open_dests}
 use Rattle.pipe_relsend.proofs.MarkLaws.{open_short}

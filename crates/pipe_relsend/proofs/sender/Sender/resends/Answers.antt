@@ -2,8 +2,7 @@ use Rattle.std.proofs.Common.{◌≡◌, ℕ, List, ap, ◌∙◌}
 use Rattle.std.specs.Prelude.{flat_map}
 use Rattle.std.proofs.lemmas.Result.{on_ok_weaker}
 use Rattle.pipe_base.specs.declared.packet.Packet.{Packet}
-use Rattle.pipe_base.specs.Ways.{with_ways}
-use Rattle.pipe_base.specs.ShortestRoute.{picked}
+use Rattle.pipe_base.specs.Ways.{with_ways, picked}
 use Rattle.pipe_relsend.specs.Pending.{Pending, owed}
 use Rattle.pipe_relsend.proofs.SendingLaws.{resends_are}
 use Rattle.pipe_relsend.proofs.sender.Sender.resends.Goals as goal

@@ -1,8 +1,7 @@
 use Rattle.std.proofs.Common.{◌≡◌, true, false, map, sym, ap, ◌∙◌}
 use Rattle.std.proofs.lemmas.Result.{on_ok_weaker}
 use Rattle.pipe_base.specs.Packets.{prepare_to, recall_to}
-use Rattle.pipe_base.specs.ShortestRoute.{picked}
-use Rattle.pipe_base.specs.Ways.{with_ways}
+use Rattle.pipe_base.specs.Ways.{picked, with_ways}
 use Rattle.pipe_relsend.specs.Header.{fields_of}
 use Rattle.pipe_relsend.specs.Pending.{Pending, open_dests, owed}
 use Rattle.pipe_relsend.specs.State.{pending_of}

@@ -1,7 +1,7 @@
 use Rattle.std.proofs.Common.{List, ap, ◌∙◌}
 use Rattle.pipe_base.specs.declared.name.LinkId.{LinkId}
-use Rattle.pipe_base.specs.ShortestRoute.{picked}
-use Rattle.pipe_paths.proofs.RouteLaws.{picked_is_route}
+use Rattle.pipe_base.specs.Ways.{picked}
+use Rattle.pipe_graph.proofs.RouteLaws.{picked_is_route}
 use Rattle.pipe_route.specs.Routing.{Routing}
 use Rattle.pipe_route.proofs.routes.RoutesRouter.pick.Goals as goal
 

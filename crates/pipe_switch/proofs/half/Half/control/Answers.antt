@@ -4,7 +4,8 @@ use Rattle.pipe_base.specs.declared.step.Step.{Step}
 use Rattle.pipe_links.specs.Links as links
 use Rattle.pipe_model.specs.declared.record.Record.{Record}
 use Rattle.pipe_model.specs.Run.{IsNodeStep}
-use Rattle.pipe_switch.specs.Half.{Does, told}
+use Rattle.pipe_switch.specs.Half.{Does}
+use Rattle.pipe_model.specs.Records.{told}
 use Rattle.pipe_switch.proofs.half.Half.control.Goals as goal
 
 -- the place and what is kept make no difference to what the half keeps

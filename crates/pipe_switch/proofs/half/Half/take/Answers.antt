@@ -1,6 +1,7 @@
 use Rattle.std.proofs.Common.{false, sym, subst}
 use Rattle.pipe_base.specs.declared.step.Step.{Step}
-use Rattle.pipe_switch.specs.Half.{Does, taken}
+use Rattle.pipe_switch.specs.Half.{Does}
+use Rattle.pipe_model.specs.Records.{taken}
 use Rattle.pipe_switch.proofs.half.Half.take.Goals as goal
 
 -- the place and what is kept make no difference to what the half keeps

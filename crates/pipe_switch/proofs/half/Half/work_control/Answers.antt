@@ -10,7 +10,7 @@ use Rattle.pipe_links.specs.Ways.{AreWays}
 use Rattle.pipe_links.specs.declared.links.Links.{Links}
 use Rattle.pipe_model.specs.declared.record.Record.{Record}
 use Rattle.pipe_model.specs.Moments.{known_drops}
-use Rattle.pipe_switch.specs.Half.{told}
+use Rattle.pipe_model.specs.Records.{told}
 use Rattle.pipe_switch.proofs.HalfSteps.{obeys}
 use Rattle.pipe_switch.proofs.half.Half.work_control.Goals as goal
 

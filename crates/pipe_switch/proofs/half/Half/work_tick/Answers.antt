@@ -3,11 +3,12 @@ use Rattle.std.proofs.lemmas.Result.{IfOk-weaker}
 use Rattle.pipe_base.specs.declared.name.LinkId.{LinkId}
 use Rattle.pipe_base.specs.declared.name.NodeId.{NodeId}
 use Rattle.pipe_base.specs.declared.step.Step.{Step}
-use Rattle.pipe_base.specs.Graph.{Graph}
+use Rattle.pipe_graph.specs.Graph.{Graph}
 use Rattle.pipe_model.specs.declared.record.Record.{Record}
 use Rattle.pipe_model.specs.Run.{IsNodeStep}
 use Rattle.pipe_links.proofs.Follows.{ready}
-use Rattle.pipe_switch.specs.Half.{Stands, Works, beat, ticked}
+use Rattle.pipe_switch.specs.Half.{Stands, Works, beat}
+use Rattle.pipe_model.specs.Records.{ticked}
 use Rattle.pipe_switch.proofs.HalfSteps.{ticks}
 use Rattle.pipe_switch.proofs.half.Half.work_tick.Goals as goal
 

@@ -2,9 +2,9 @@ use Rattle.std.proofs.Common.{ℕ, ◌<◌, List, Bool, subst, sym}
 use Rattle.std.proofs.lemmas.Result.{IfOk-weaker}
 use Rattle.pipe_base.specs.declared.name.NodeId.{NodeId}
 use Rattle.pipe_base.specs.declared.step.Step.{Step}
-use Rattle.pipe_base.specs.Graph.{Graph}
+use Rattle.pipe_graph.specs.Graph.{Graph}
 use Rattle.pipe_host.specs.Host as host
-use Rattle.pipe_host.specs.Steps.{told}
+use Rattle.pipe_model.specs.Records.{told}
 use Rattle.pipe_model.specs.declared.record.Record.{Record}
 use Rattle.pipe_switch.specs.Half as half
 use Rattle.pipe_world.specs.declared.node.Node.{Node}

@@ -3,7 +3,7 @@ use Rattle.pipe_base.specs.declared.control.Announced.{Announced}
 use Rattle.pipe_base.specs.declared.name.NodeId.{NodeId}
 use Rattle.pipe_base.specs.declared.step.Outcome.TheVariants.{Ok}
 use Rattle.pipe_base.specs.declared.step.Step.{Step}
-use Rattle.pipe_base.specs.Graph.{Graph, is_host}
+use Rattle.pipe_graph.specs.Graph.{Graph, is_host}
 use Rattle.pipe_base.specs.Step.{quiet_step}
 use Rattle.pipe_links.proofs.Follows.{ready as links_ready}
 use Rattle.pipe_model.specs.declared.record.Record.{Record}
@@ -11,7 +11,8 @@ use Rattle.pipe_model.specs.Run.{IsNodeStep}
 use Rattle.pipe_host.proofs.RecordLaws.{still_buffers, still_fate, still_logged}
 use Rattle.pipe_world.specs.declared.node.Node.{Node}
 use Rattle.pipe_world.specs.declared.node.Node.TheVariants.{Host, Half}
-use Rattle.pipe_world.specs.Node.{Stands, StandsWith, Works, crashed}
+use Rattle.pipe_world.specs.Node.{Stands, StandsWith, Works}
+use Rattle.pipe_model.specs.Records.{crashed}
 use Rattle.pipe_world.proofs.node.Node.work_crash.Goals as goal
 
 -- a crash notes nothing
@@ -44,6 +45,7 @@ ready graph node own (Host h) stands =
       links_are = links_ready graph node.0 own r h.links stands.links_are (crashes graph node own) refl;
       taking = tt;
       next_is = stands.next_is;
+      top_is = stands.top_is;
       held_are = stands.held_are ∙ sym (still_buffers graph node.0 own r refl refl);
       sender_is = stands.sender_is;
       receiver = tt;

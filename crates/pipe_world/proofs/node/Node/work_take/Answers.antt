@@ -1,10 +1,10 @@
 use Rattle.std.proofs.Common.{◌≡◌, ℕ, List, Bool, true, subst}
 use Rattle.std.proofs.lemmas.Result.{IfOk-weaker}
 use Rattle.pipe_base.specs.declared.step.Step.{Step}
-use Rattle.pipe_base.specs.Graph.{Graph, ins_of}
+use Rattle.pipe_graph.specs.Graph.{Graph, ins_of}
 use Rattle.pipe_base.specs.Moment.{has_link}
 use Rattle.pipe_host.specs.Host as host
-use Rattle.pipe_host.specs.Steps.{taken}
+use Rattle.pipe_model.specs.Records.{taken}
 use Rattle.pipe_model.specs.declared.record.Record.{Record}
 use Rattle.pipe_switch.specs.Half as half
 use Rattle.pipe_world.specs.declared.node.Node.{Node}

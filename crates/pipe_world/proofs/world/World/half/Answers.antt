@@ -1,5 +1,5 @@
 use Rattle.std.proofs.Common.{◌≡◌, ◌<◌, List, true, reverse, sym, subst}
-use Rattle.pipe_base.specs.Graph.{Graph, is_half}
+use Rattle.pipe_graph.specs.Graph.{Graph, is_half}
 use Rattle.pipe_switch.specs.Half as halves
 use Rattle.pipe_model.specs.declared.record.Record.{Record}
 use Rattle.pipe_model.specs.Acting.{own}

@@ -1,5 +1,5 @@
 use Rattle.std.proofs.Common.{◌<◌, List, reverse, sym, subst}
-use Rattle.pipe_base.specs.Graph.{Graph}
+use Rattle.pipe_graph.specs.Graph.{Graph}
 use Rattle.pipe_host.specs.Host as hosts
 use Rattle.pipe_model.specs.declared.record.Record.{Record}
 use Rattle.pipe_model.specs.Acting.{own}

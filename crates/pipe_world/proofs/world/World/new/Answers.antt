@@ -1,7 +1,7 @@
 use Rattle.std.proofs.Common.{List, [], reverse, sym, subst, ap, arith}
 use Rattle.std.proofs.lemmas.List.Elements.{All-nil}
-use Rattle.pipe_base.specs.Graph.{Graph}
-use Rattle.pipe_base.specs.Reach.{JoinsAllHosts}
+use Rattle.pipe_graph.specs.Graph.{Graph}
+use Rattle.pipe_graph.specs.Reach.{JoinsAllHosts}
 use Rattle.pipe_model.specs.declared.record.Record.{Record}
 use Rattle.pipe_model.specs.Event.{IsOfGraph}
 use Rattle.pipe_net.specs.Waits.{Waits}

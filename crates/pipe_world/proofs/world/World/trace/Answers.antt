@@ -1,5 +1,5 @@
 use Rattle.std.proofs.Common.{reverse, subst}
-use Rattle.pipe_base.specs.Reach.{JoinsAllHosts}
+use Rattle.pipe_graph.specs.Reach.{JoinsAllHosts}
 use Rattle.pipe_model.specs.AllOrNone.{IsAllOrNone}
 use Rattle.pipe_model.specs.LateMessage.{IsNoneLateOfItself}
 use Rattle.pipe_model.specs.NeverLate.{AreLinksOrdered, IsNeverLate}

@@ -1,6 +1,6 @@
 use Rattle.std.proofs.Common.{◌<◌, List, length, reverse, sym, subst, ap, ◌∙◌, arith}
 use Rattle.pipe_base.specs.declared.packet.Packet.{Packet}
-use Rattle.pipe_base.specs.Graph.{Graph}
+use Rattle.pipe_graph.specs.Graph.{Graph}
 use Rattle.pipe_model.specs.declared.record.Record.{Record}
 use Rattle.pipe_model.specs.Waiting.{waiting_on}
 use Rattle.pipe_world.specs.World.{GraphAndTrace}

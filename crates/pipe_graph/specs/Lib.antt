@@ -1,0 +1,13 @@
+pub mod Below
+pub mod Count
+pub mod Cut
+pub mod Doomed
+pub mod FailureTime
+pub mod Graph
+pub mod Mirror
+pub mod Passable
+pub mod Path
+pub mod Reach
+pub mod Reported
+pub mod ShortestRoute
+pub mod Useless

@@ -1,5 +1,0 @@
-use Rattle.pipe_paths.proofs.PathLaws.{path_more}
-use Rattle.pipe_paths.proofs.paths.larger_sets_have_paths.Goals as goal
-
-pub returns : goal.returns
-returns c = path_more

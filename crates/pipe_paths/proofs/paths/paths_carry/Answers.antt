@@ -1,5 +1,0 @@
-use Rattle.pipe_paths.proofs.PathLaws.{path_carries}
-use Rattle.pipe_paths.proofs.paths.paths_carry.Goals as goal
-
-pub returns : goal.returns
-returns c = path_carries

@@ -1,5 +1,0 @@
-use Rattle.pipe_paths.proofs.PathLaws.{path_split}
-use Rattle.pipe_paths.proofs.paths.paths_split.Goals as goal
-
-pub returns : goal.returns
-returns c = path_split

@@ -1,5 +1,0 @@
-use Rattle.pipe_paths.proofs.Rounds.{fed_along}
-use Rattle.pipe_paths.proofs.reach.paths_are_fed.Goals as goal
-
-pub returns : goal.returns
-returns c = fed_along

@@ -1,5 +1,0 @@
-use Rattle.pipe_paths.proofs.RouteLaws.{first_begins}
-use Rattle.pipe_paths.proofs.routes.firsts_begin_shortest.Goals as goal
-
-pub returns : goal.returns
-returns c = first_begins

@@ -1,5 +1,0 @@
-use Rattle.pipe_paths.proofs.RouteLaws.{picked_is_route}
-use Rattle.pipe_paths.proofs.routes.lists_give_routes.Goals as goal
-
-pub returns : goal.returns
-returns c = picked_is_route
