@@ -105,17 +105,24 @@ def ends(run: Run, link: str) -> str:
 
 def event_marks(record: Record, run: Run) -> list[Mark]:
     """The events that are marks of their own, and those that did not happen."""
-    marks = []
     if record.outcome[0] not in ("ok", "ignored"):
-        marks.append(Mark("idle", " ".join(record.outcome)))
+        return [Mark("idle", " ".join(record.outcome))]
     match record.event:
         case ["crash", node]:
-            marks.append(Mark("crash", f"{node} crashes"))
+            return [Mark("crash", f"{node} crashes")]
+        case ["cut", link] if run.cuts.get(int(link)) == record.number:
+            return [Mark("cut", f"link {link} {ends(run, link)} is cut")]
         case ["cut", link]:
-            marks.append(Mark("cut", f"link {link} {ends(run, link)} is cut"))
+            return [Mark("idle", f"link {link} was cut before")]
         case ["decide", *_]:
-            marks.append(Mark("decide", "decision"))
-    return marks
+            return [Mark("decide", "decision")]
+    return []
+
+
+def noted_mark(words: list[str], record: Record) -> Mark:
+    """A decision announces the host, and a host notes it."""
+    verb = "announced" if record.event[0] == "decide" else "noted"
+    return Mark("noted", f"{verb} {words[0]} from {words[1]}")
 
 
 def marks_of(record: Record, run: Run, lost: Put | None) -> list[Mark]:
@@ -123,13 +130,13 @@ def marks_of(record: Record, run: Run, lost: Put | None) -> list[Mark]:
     marks = event_marks(record, run)
     if lost is not None:
         marks.append(Mark("lost", f"lost {about(lost.item)}"))
-    marks += [Mark("told", f"stamp {line.words[0]}") for line in record.all("stamp")]
+    marks += [Mark("stamp", f"stamp {line.words[0]}") for line in record.all("stamp")]
     marks += taken_marks(record)
     marks += [down_mark(line.words, run) for line in record.all("down")]
-    marks += [Mark("noted", f"noted {line.words[0]} from {line.words[1]}") for line in record.all("noted")]
-    marks += [Mark("noted", f"dropped {line.words[0]} {ends(run, line.words[0])}") for line in record.all("dropped")]
+    marks += [noted_mark(line.words, record) for line in record.all("noted")]
+    marks += [Mark("dropped", f"dropped {line.words[0]} {ends(run, line.words[0])}") for line in record.all("dropped")]
     marks += [logged_mark(line.words) for line in record.all("logged")]
-    marks += [Mark("idle", f"{line.words[0]} without a way") for line in record.all("unrouted")]
+    marks += [Mark("unrouted", f"{line.words[0]} without a way") for line in record.all("unrouted")]
     return marks
 
 

@@ -7,7 +7,8 @@ const byId = (id) => document.getElementById(id);
 const run = byId("run");
 const gutter = byId("gutter");
 const diagram = byId("diagram");
-const last = facts.records.length - 1;
+const first = facts.first;
+const last = first + facts.records.length - 1;
 
 /** What is shown: one part of the run, perhaps a chosen record, a host and a scattering that stand out. */
 const view = { part: 0, record: null, host: "", scattering: "", beacons: true };
@@ -57,9 +58,9 @@ function showPart(place) {
 }
 
 function tellPart() {
-  const { first, end } = parts[view.part];
+  const { first: begin, end } = parts[view.part];
   byId("parts").hidden = parts.length === 1;
-  byId("shown").textContent = `records ${first} to ${end - 1} of ${facts.records.length}`;
+  byId("shown").textContent = `records ${begin} to ${end - 1}`;
   byId("earlier").disabled = view.part === 0;
   byId("later").disabled = view.part === parts.length - 1;
 }
@@ -79,6 +80,16 @@ function ofRecord(record) {
   return `[data-record="${record}"], #record-${record}`;
 }
 
+/** The record is on the page: others have no row, and no lines. */
+function isHere(record) {
+  return Number.isInteger(record) && record >= first && record <= last;
+}
+
+/** The number that a text spells, or none. */
+function numberOf(text) {
+  return /^[0-9]+$/.test(text) ? Number(text) : NaN;
+}
+
 /** Marks the chosen record, what it took and put, and the records at the other ends. */
 function markChosen() {
   clear("chosen", "related", "came", "went");
@@ -87,7 +98,7 @@ function markChosen() {
   for (const place of arrowsOf(view.record)) {
     const arrow = arrows[place];
     const came = arrow.to === view.record;
-    byId(`arrow-${place}`)?.classList.add(came ? "came" : "went");
+    for (const drawn of ["arrow", "stub"]) byId(`${drawn}-${place}`)?.classList.add(came ? "came" : "went");
     mark(ofRecord(came ? arrow.from : arrow.to), "related");
   }
 }
@@ -110,7 +121,7 @@ function button(shown, act) {
 }
 
 function step(record, shown) {
-  return button(shown, () => choose(record));
+  return isHere(record) ? button(shown, () => choose(record)) : told(shown, "elsewhere");
 }
 
 function told(words, name) {
@@ -151,7 +162,7 @@ function tellRecord() {
   if (view.record === null) return;
   const lines = document.createElement("ul");
   lines.className = "lines";
-  lines.append(...facts.records[view.record].split("\n").map((text, line) => lineItem(view.record, text, line)));
+  lines.append(...facts.records[view.record - first].split("\n").map((text, line) => lineItem(view.record, text, line)));
   byId("record").replaceChildren(lines, ...followers(view.record));
   byId("number").value = view.record;
 }
@@ -171,7 +182,7 @@ function bringIntoSight() {
 }
 
 function choose(record) {
-  if (!(record >= 0 && record <= last)) return;
+  if (!isHere(record)) return;
   view.record = record;
   showPart(parts.findIndex(({ end }) => record < end));
   markChosen();
@@ -187,7 +198,7 @@ function otherEnd(back) {
     .map((place) => arrows[place])
     .filter(({ from, to }) => (back ? to : from) === view.record)
     .map(({ from, to }) => (back ? from : to))
-    .filter((record) => record !== null);
+    .filter(isHere);
   return ends.length ? Math.min(...ends) : view.record;
 }
 
@@ -224,7 +235,7 @@ function readAddress() {
   const known = (id) => (has(id, words.get(id)) ? words.get(id) : "");
   const record = words.get("record");
   const [host, scattering, beacons] = [known("host"), known("scattering"), words.get("beacons") !== "off"];
-  if (record !== null) choose(Number(record));
+  choose(numberOf(record));
   filter(host, scattering);
   light(beacons);
 }
@@ -234,7 +245,7 @@ const KEYS = {
   ArrowUp: () => choose(view.record === null ? parts[view.part].first : view.record - 1),
   ArrowLeft: () => choose(otherEnd(true)),
   ArrowRight: () => choose(otherEnd(false)),
-  Home: () => choose(0),
+  Home: () => choose(first),
   End: () => choose(last),
   b: () => light(!view.beacons),
   Escape: () => filter("", ""),
@@ -253,7 +264,7 @@ run.addEventListener("click", (event) => {
 });
 byId("controls").addEventListener("submit", (event) => event.preventDefault());
 byId("number").addEventListener("change", (event) => {
-  choose(Number(event.target.value));
+  choose(numberOf(event.target.value));
   event.target.value = view.record ?? "";
 });
 byId("host").addEventListener("change", (event) => filter(event.target.value, view.scattering));

@@ -7,7 +7,7 @@ from pathlib import Path
 from string import Template
 
 from .drawing import GUTTER, Drawing, Part, element, number
-from .run import Arrow, Run
+from .run import Arrow
 from .scene import Scene
 
 HERE = Path(__file__).parent
@@ -41,10 +41,11 @@ def end_of(arrow: Arrow) -> list[object]:
     return [arrow.put.record, arrow.put.line, arrow.record, arrow.line, str(arrow.end)]
 
 
-def facts(run: Run, parts: list[Part]) -> dict[str, object]:
+def facts(drawing: Drawing, parts: list[Part]) -> dict[str, object]:
     return {
-        "records": ["\n".join(record.text) for record in run.records],
-        "arrows": [end_of(arrow) for arrow in run.arrows],
+        "first": drawing.scene.window.start,
+        "records": ["\n".join(record.text) for record in drawing.scene.records],
+        "arrows": [end_of(arrow) for arrow in drawing.arrows],
         "parts": [[part.first, part.end, part.top, part.height] for part in parts],
     }
 
@@ -58,19 +59,31 @@ def later_part(place: int, part: Part) -> str:
     return f'<script type="image/svg+xml" id="part-{place}"><g>{part.gutter}</g><g>{part.diagram}</g></script>\n'
 
 
+def counts(scene: Scene) -> str:
+    """How much there is, and which of it the page has."""
+    records, hosts = Count(len(scene.run.records), "record"), Count(len(scene.run.topology.hosts), "host")
+    window = scene.window
+    here = "" if len(window) == records.number else f", of which {window.start} to {window.stop - 1} are here"
+    return f"{records}{here}, {hosts}"
+
+
+def style(scene: Scene) -> str:
+    beside = number(GUTTER + scene.width + PANEL + SCROLL_BAR)
+    return asset("drawing.css") + "\n" + Template(asset("page.css")).substitute(beside=beside)
+
+
 def page(title: str, scene: Scene) -> str:
-    run = scene.run
     drawing = Drawing(scene)
     parts = drawing.parts()
-    counts = Count(len(run.records), "record"), Count(len(run.topology.hosts), "host")
     return Template(asset("page.html")).substitute(
         title=escape(title),
-        counts=", ".join(map(str, counts)),
-        style=Template(asset("page.css")).substitute(beside=number(GUTTER + scene.width + PANEL + SCROLL_BAR)),
+        counts=counts(scene),
+        style=style(scene),
         script=asset("page.js"),
-        last=max(len(run.records) - 1, 0),
-        hosts="".join(option(host, host) for host in run.topology.hosts),
-        scatterings="".join(option(scattering.token, str(scattering)) for scattering in run.scatterings),
+        first=scene.window.start,
+        last=max(scene.window.stop - 1, scene.window.start),
+        hosts="".join(option(host, host) for host in scene.run.topology.hosts),
+        scatterings="".join(option(scattering.token, str(scattering)) for scattering in scene.scatterings),
         names=drawing.header(),
         gutter_width=GUTTER,
         width=number(scene.width),
@@ -79,5 +92,6 @@ def page(title: str, scene: Scene) -> str:
         gutter=parts[0].gutter,
         diagram=parts[0].diagram,
         later="".join(later_part(place, part) for place, part in enumerate(parts) if place > 0),
-        facts=as_script(facts(run, parts)),
+        defs=asset("defs.svg"),
+        facts=as_script(facts(drawing, parts)),
     )

@@ -3,12 +3,12 @@
 What waits on a link, or as a control message, is followed as the trace says: what is put comes last, an event names a
 place, and what a record took must be what waits there."""
 
-from collections import defaultdict
+from collections import defaultdict, deque
 from dataclasses import dataclass
 from enum import StrEnum
 
 from .topology import Topology
-from .trace import Control, Line, Packet, Record, Scattering, read_control, read_packet
+from .trace import Control, Line, Packet, Record, Scattering, TraceFault, read_control, read_packet
 
 CONTROLLER = "controller"
 
@@ -56,12 +56,8 @@ class Run:
     records: list[Record]
     nodes: list[str | None]  # per record the node that acts
     arrows: list[Arrow]
-
-    @property
-    def scatterings(self) -> list[Scattering]:
-        """All that were stamped, in the order of the run."""
-        stamps = [(line, node) for record, node in zip(self.records, self.nodes) for line in record.all("stamp") if node]
-        return list(dict.fromkeys(Scattering(int(line.words[0]), node) for line, node in stamps))
+    crashes: dict[str, int]  # per node that crashed the record in which it did
+    cuts: dict[int, int]  # per link that is cut the record that first cut it
 
     @property
     def lost(self) -> dict[int, Put]:
@@ -73,18 +69,15 @@ class Run:
         return CONTROLLER in self.nodes or any(CONTROLLER in (arrow.put.tail, arrow.put.head) for arrow in self.arrows)
 
 
-class TraceFault(Exception):
-    """A record took something that does not wait at its place."""
-
-
 class Follower:
-    """The lists of what waits, after some records."""
+    """What waits, who has crashed and which links are cut, after some records."""
 
     def __init__(self, topology: Topology) -> None:
         self.topology = topology
         self.names = set(topology.nodes())
-        self.waiting: dict[int | None, list[Put]] = defaultdict(list)  # per link; control messages at None
-        self.cut: set[int | None] = set()
+        self.waiting: dict[int | None, deque[Put]] = defaultdict(deque)  # per link; control messages at None
+        self.crashes: dict[str, int] = {}
+        self.cuts: dict[int, int] = {}
         self.arrows: list[Arrow] = []
 
     def follow(self, record: Record) -> str | None:
@@ -109,6 +102,9 @@ class Follower:
                 self.lose(record, None, int(place))
             case ["cut", link]:
                 self.cut_link(record, int(link))
+            case ["crash", name] if record.outcome == ["ok"]:
+                self.crashes.setdefault(name, record.number)
+                return name
             case ["decide", *_]:
                 return CONTROLLER
             case [_, name, *_] if name in self.names:
@@ -131,11 +127,12 @@ class Follower:
 
     def lose(self, record: Record, link: int | None, place: int) -> None:
         if record.outcome == ["ok"]:
-            self.arrows.append(Arrow(self.waiting[link].pop(place), End.LOST, record.number, 0))
+            self.arrows.append(Arrow(self.waiting[link][place], End.LOST, record.number, 0))
+            del self.waiting[link][place]
 
     def cut_link(self, record: Record, link: int) -> None:
         """A cut link loses what waits, and from now on all that is put."""
-        self.cut.add(link)
+        self.cuts.setdefault(link, record.number)
         self.arrows += [Arrow(put, End.CUT, record.number, 0) for put in self.waiting.pop(link, [])]
 
     def put_packet(self, record: Record, line: Line) -> None:
@@ -148,7 +145,7 @@ class Follower:
         self.wait(Put(record.number, line.place, None, control, line.words, node or CONTROLLER, control.to))
 
     def wait(self, put: Put) -> None:
-        if put.link in self.cut:
+        if put.link in self.cuts:
             self.arrows.append(Arrow(put, End.CUT))
         else:
             self.waiting[put.link].append(put)
@@ -161,4 +158,4 @@ class Follower:
 def follow(topology: Topology, records: list[Record]) -> Run:
     follower = Follower(topology)
     nodes = [follower.follow(record) for record in records]
-    return Run(topology, records, nodes, follower.arrows + follower.rest())
+    return Run(topology, records, nodes, follower.arrows + follower.rest(), follower.crashes, follower.cuts)

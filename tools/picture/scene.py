@@ -1,4 +1,4 @@
-"""Where everything stands: a column per node, a row per record, and beside each dot its marks and figures.
+"""Where everything stands: a column per node, a row per record of a window, and beside each dot its marks and figures.
 
 Hosts stand at the outside, the halves of switches between them near the hosts below, the controller at the right end."""
 
@@ -8,9 +8,9 @@ from enum import Enum
 from statistics import mean
 
 from .marks import Figures, Mark, marks_of
-from .run import CONTROLLER, Put, Run
+from .run import CONTROLLER, Arrow, Put, Run
 from .topology import Switch, Topology
-from .trace import Record
+from .trace import Record, Scattering
 
 LETTER = 7.3  # the width of a letter beside a dot
 HEADER_LETTER = 8.2
@@ -21,6 +21,7 @@ WIDE = 120  # the space between columns where there are few
 NARROW = 42
 ROOM = 720  # what all columns together take where they can
 BESIDE = 12  # the space between a dot and its marks
+BEYOND = 2 * ROW  # how far beyond an edge of the window something stands that is not in it
 LEAST_MARGIN = 40
 LOSS = 0.6  # how far along its way something is lost
 
@@ -78,10 +79,39 @@ class Row:
 
 @dataclass(frozen=True)
 class Scene:
+    """The records of the window alone have rows; what came before or comes later stands beyond its edges."""
+
     run: Run
+    window: range
     columns: dict[str, Column]
     rows: list[Row]
     width: float
+
+    @property
+    def records(self) -> list[Record]:
+        return self.run.records[self.window.start : self.window.stop]
+
+    @property
+    def scatterings(self) -> list[Scattering]:
+        """All that were stamped in the window, in the order of the run."""
+        stamps = [(self.run.nodes[record.number], line) for record in self.records for line in record.all("stamp")]
+        return list(dict.fromkeys(Scattering(int(line.words[0]), node) for node, line in stamps if node))
+
+    @property
+    def arrows(self) -> list[Arrow]:
+        """Those that begin or end in the window."""
+        return [arrow for arrow in self.run.arrows if arrow.put.record in self.window or arrow.record in self.window]
+
+    def row(self, number: int) -> Row:
+        return self.rows[number - self.window.start]
+
+    def dot(self, number: int) -> float:
+        """How far down the dot of a record stands, or would."""
+        if number < self.window.start:
+            return -BEYOND
+        if number >= self.window.stop:
+            return (self.rows[-1].top + self.rows[-1].height if self.rows else 0) + BEYOND
+        return self.row(number).dot
 
 
 def hosts_below(topology: Topology) -> dict[str, set[int]]:
@@ -143,12 +173,16 @@ def place_of(record: Record, run: Run, columns: dict[str, Column], lost: Put | N
     return Place(mean(column.x for column in columns.values()), Side.RIGHT)
 
 
-def rows_of(run: Run, columns: dict[str, Column]) -> list[Row]:
+def rows_of(run: Run, window: range, columns: dict[str, Column]) -> list[Row]:
+    """The figures go by all records from the first on, so that they tell what rises in the window."""
     rows: list[Row] = []
     figures, lost, top = Figures(), run.lost, 0.0
-    for record, node in zip(run.records, run.nodes):
+    for record, node in zip(run.records[: window.stop], run.nodes):
+        risen = figures.rise(record, node)
+        if record.number < window.start:
+            continue
         gone = lost.get(record.number)
-        marks, risen = marks_of(record, run, gone), figures.rise(record, node)
+        marks = marks_of(record, run, gone)
         height = ROW + LINE * max(len(marks) - 1, len(risen) - 1, 0)
         rows.append(Row(top, height, place_of(record, run, columns, gone), marks, risen))
         top += height
@@ -168,10 +202,10 @@ def margins(rows: list[Row], last: float) -> tuple[float, float]:
     return max(left, LEAST_MARGIN), max(right, LEAST_MARGIN)
 
 
-def scene_of(run: Run) -> Scene:
+def scene_of(run: Run, window: range) -> Scene:
     columns = columns_of(run)
-    rows = rows_of(run, columns)
+    rows = rows_of(run, window, columns)
     last = max(column.x for column in columns.values())
     left, right = margins(rows, last)
     moved = {node: replace(column, place=column.place.moved(left)) for node, column in columns.items()}
-    return Scene(run, moved, [replace(row, place=row.place.moved(left)) for row in rows], left + last + right)
+    return Scene(run, window, moved, [replace(row, place=row.place.moved(left)) for row in rows], left + last + right)

@@ -5,6 +5,11 @@ from dataclasses import dataclass
 ANSWERS = ("ack", "recallack")
 
 
+class TraceFault(Exception):
+    """What the program wrote is no trace of this input."""
+
+
+
 @dataclass(frozen=True)
 class Scattering:
     """The messages of one send: its timestamp and its sender."""
@@ -48,6 +53,25 @@ class Control:
 
     to: str
     words: list[str]
+
+    @property
+    def nodes(self) -> set[str]:
+        """The nodes that it names."""
+        match self.words:
+            case ["notice", _, *entries]:
+                return {self.to, *(entry.split(":")[0] for entry in entries)}
+            case [("done" | "gone"), node, _]:
+                return {self.to, node}
+        return {self.to}
+
+    @property
+    def links(self) -> list[str]:
+        match self.words:
+            case ["down", link, _] | ["freeze", link]:
+                return [link]
+            case ["drop", _, *links]:
+                return links
+        return []
 
 
 @dataclass(frozen=True)
@@ -97,6 +121,8 @@ def read_record(text: list[str]) -> Record:
 def read_trace(text: str) -> list[Record]:
     """All records between the line `trace N` and the line `end`."""
     lines = text.split("\n")
+    if "end" not in lines:
+        raise TraceFault("the program wrote no whole trace")
     lines = lines[1 : lines.index("end")]
     starts = [place for place, line in enumerate(lines) if line.startswith("event ")]
     return [read_record(lines[start:end]) for start, end in zip(starts, starts[1:] + [len(lines)])]
