@@ -31,8 +31,8 @@ fn dropping(alloc: Global) -> Result<Control, NoMemory> {
     })
 }
 
-fn fill(alloc: Global, step: &mut Step) -> Result<(), NoMemory> {
-    let packet = Packet {
+fn packet(alloc: Global) -> Packet {
+    Packet {
         kind: PacketKind::Plain,
         src: HostId(1),
         dst: HostId(2),
@@ -40,8 +40,11 @@ fn fill(alloc: Global, step: &mut Step) -> Result<(), NoMemory> {
         be: Ts(11),
         commit: Ts(12),
         body: Body::empty(alloc),
-    };
-    step.put.push((LinkId(3), packet))?;
+    }
+}
+
+fn fill(alloc: Global, step: &mut Step) -> Result<(), NoMemory> {
+    step.put.push((LinkId(3), packet(alloc)))?;
     step.control.push(Addressed {
         to: To::Controller,
         control: dropping(alloc)?,
@@ -50,13 +53,27 @@ fn fill(alloc: Global, step: &mut Step) -> Result<(), NoMemory> {
         host: HostId(4),
         time: Ts(5),
     })?;
+    step.downed.push((LinkId(8), Ts(9)))?;
+    step.logged.push((Service::Reliable, entry(alloc)))?;
     step.dropped.push_from(&mut LinkId(6), LinkId(0))
+}
+
+fn entry(alloc: Global) -> Entry {
+    Entry {
+        key: Key {
+            ts: Ts(10),
+            src: HostId(1),
+        },
+        body: Body::empty(alloc),
+    }
 }
 
 fn is_filled(step: &Step) -> bool {
     step.put.len() == 1
         && step.control.len() == 1
         && step.noted.len() == 1
+        && step.downed.len() == 1
+        && step.logged.len() == 1
         && matches!(step.dropped.get(0), Some(LinkId(6)))
         && step.dropped.get(1).is_none()
 }
@@ -66,5 +83,32 @@ fn steps_are_copied(rt: HostRuntime) -> Result<(), NoMemory> {
     let mut step = Step::new(rt.alloc());
     fill(rt.alloc(), &mut step)?;
     assert!(rt; is_filled(&step.try_clone()?));
+    Ok(())
+}
+
+/// Whether the copy of the step, kept in its short form, has so many packets and entries.
+fn has_copy(alloc: Global, step: Step, counts: (usize, usize)) -> Result<bool, NoMemory> {
+    let copy = step.keep(alloc)?.try_clone()?;
+    Ok((copy.put().len(), copy.logged().len()) == counts)
+}
+
+fn steps_of_each_form_are_copied(alloc: Global) -> Result<bool, NoMemory> {
+    let mut whole = Step::new(alloc);
+    fill(alloc, &mut whole)?;
+    let mut puts = Step::new(alloc);
+    puts.put.push((LinkId(3), packet(alloc)))?;
+    puts.put.push((LinkId(5), packet(alloc)))?;
+    let mut logs = Step::new(alloc);
+    logs.logged.push((Service::BestEffort, entry(alloc)))?;
+    Ok(
+        has_copy(alloc, whole, (1, 1))?
+            && has_copy(alloc, puts, (2, 0))?
+            && has_copy(alloc, logs, (0, 1))?,
+    )
+}
+
+#[test]
+fn kept_steps_are_copied(rt: HostRuntime) -> Result<(), NoMemory> {
+    assert!(rt; steps_of_each_form_are_copied(rt.alloc())?);
     Ok(())
 }

@@ -4,7 +4,7 @@
 ghost use Rattle.std.specs.Prelude.{◌≡◌};
 ghost use Rattle.pipe_codec.specs.Packet.{IsSendable};
 
-use pipe_base::{Body, BodyFault, HostId, NoMemory, Packet, PacketKind, Ts};
+use pipe_base::{Body, BodyFault, Control, HostId, NoMemory, Packet, PacketKind, Ts};
 use pipe_codec::*;
 use std::alloc::{AllocError, Global};
 
@@ -112,7 +112,7 @@ fn is_read_back(alloc: Global) -> Result<bool, NoMemory> {
 }
 
 // The longest body, and one that is longer.
-fn is_longest_read_back(alloc: Global) -> Result<bool, AllocError> {
+fn is_longest_read_back(alloc: Global) -> Result<bool, NoMemory> {
     let bytes = vec![in alloc; 7u8; 1025]?;
     let mut out = [0u8; 1050];
     match Body::new(alloc, &bytes[..1024]) {
@@ -121,7 +121,7 @@ fn is_longest_read_back(alloc: Global) -> Result<bool, AllocError> {
             Ok(
                 packet.body.bytes().len() <= 1024
                     && encode(&packet, &mut out) == 1050
-                    && has_body(&out, &bytes[..1024])
+                    && has_body(alloc, &out, &bytes[..1024])?
                     && Body::new(alloc, &bytes).err() == Some(BodyFault::TooLong { len: 1025 }),
             )
         }
@@ -129,10 +129,10 @@ fn is_longest_read_back(alloc: Global) -> Result<bool, AllocError> {
     }
 }
 
-fn has_body(bytes: &[u8], body: &[u8]) -> bool {
+fn has_body(alloc: Global, bytes: &[u8], body: &[u8]) -> Result<bool, NoMemory> {
     match decode(bytes) {
-        Ok(read) => read.body == body,
-        Err(_) => false,
+        Ok(read) => Ok(own(alloc, &read)?.body.bytes() == body),
+        Err(_) => Ok(false),
     }
 }
 
@@ -193,6 +193,38 @@ fn control_messages_are_read_and_written_back(rt: HostRuntime) -> Result<(), All
     for (bytes, shown) in &CONTROLS {
         assert!(rt; is_control(rt.alloc(), bytes, shown)?, "{shown}");
     }
+    Ok(())
+}
+
+static ZEROS: [u8; 2176] = [0; 2176];
+
+/// Whether a header with this behind it is read as a list of so many entries.
+fn has_entries(
+    alloc: Global,
+    head: &[u8],
+    tail: &[u8],
+    entries: usize,
+) -> Result<bool, AllocError> {
+    let mut bytes = Vec::from_slice(alloc, head)?;
+    bytes.extend_from_slice(tail)?;
+    match decode_control(alloc, &bytes) {
+        Ok(message) => Ok(listed(&message.control) == entries),
+        Err(_) => Ok(false),
+    }
+}
+
+fn listed(control: &Control) -> usize {
+    match control {
+        Control::Notice { list } => list.len(),
+        Control::DropLinks { links } => links.len(),
+        _ => 0,
+    }
+}
+
+#[test]
+fn the_longest_lists_are_read(rt: HostRuntime) -> Result<(), AllocError> {
+    assert!(rt; has_entries(rt.alloc(), &[1, 18, 0, 1, 2, 0], &ZEROS[..512], 64)?);
+    assert!(rt; has_entries(rt.alloc(), &[1, 20, 0, 6, 8, 128], &ZEROS, 1088)?);
     Ok(())
 }
 

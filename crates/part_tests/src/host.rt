@@ -37,16 +37,19 @@ enum Call {
 /// How many messages a step logged, packets it put, links went down and control messages it put.
 type Counts = (usize, usize, usize, usize);
 
-/// A call with the outcome, fate and counts of its step; the commit barrier of the first packet put; and what the host
-/// promises then.
-struct Row {
-    call: Call,
-    outcome: Outcome,
-    fate: Option<Fate>,
-    counts: Counts,
-    commit: Option<u64>,
-    promise: u64,
-}
+/// The outcome, fate and counts of a step; the commit barrier of the first packet put; and what the host promises then.
+struct Seen(Outcome, Option<Fate>, Counts, Option<u64>, u64);
+
+/// A call with what is seen of its step.
+struct Row(Call, Seen);
+
+const OK: Outcome = Outcome::Ok;
+
+const UNSENT: Outcome = Outcome::DestFailed { host: HostId(0) };
+
+const DISCARDED: Option<Fate> = Some(Fate::Discarded { time: Ts(5) });
+
+const LATE: Option<Fate> = Some(Fate::Late { barrier: Ts(31) });
 
 const END: Outcome = Outcome::ClockEnd {
     next: Ts(LAST_BARRIER),
@@ -54,312 +57,147 @@ const END: Outcome = Outcome::ClockEnd {
 
 // The host takes whatever it is handed, up to the end of its clock.
 static TO_THE_END: [Row; 6] = [
-    Row {
-        call: Call::Take(PacketKind::Plain, 7, LAST_STAMP, 0),
-        outcome: Outcome::Ok,
-        fate: Some(Fate::Held),
-        counts: (0, 0, 0, 0),
-        commit: None,
-        promise: 0,
-    },
-    Row {
-        call: Call::Take(PacketKind::Beacon, 0, 0, LAST_BARRIER),
-        outcome: Outcome::Ok,
-        fate: None,
-        counts: (1, 0, 0, 0),
-        commit: None,
-        promise: LAST_BARRIER,
-    },
-    Row {
-        call: Call::Send(Service::BestEffort, 5),
-        outcome: END,
-        fate: None,
-        counts: (0, 0, 0, 0),
-        commit: None,
-        promise: LAST_BARRIER,
-    },
-    Row {
-        call: Call::Tick(6),
-        outcome: Outcome::Ok,
-        fate: None,
-        counts: (0, 1, 0, 0),
-        commit: Some(LAST_BARRIER),
-        promise: LAST_BARRIER,
-    },
+    Row(
+        Call::Take(PacketKind::Plain, 7, LAST_STAMP, 0),
+        Seen(OK, Some(Fate::Held), (0, 0, 0, 0), None, 0),
+    ),
+    Row(
+        Call::Take(PacketKind::Beacon, 0, 0, LAST_BARRIER),
+        Seen(OK, None, (1, 0, 0, 0), None, LAST_BARRIER),
+    ),
+    Row(
+        Call::Send(Service::BestEffort, 5),
+        Seen(END, None, (0, 0, 0, 0), None, LAST_BARRIER),
+    ),
+    Row(
+        Call::Tick(6),
+        Seen(OK, None, (0, 1, 0, 0), Some(LAST_BARRIER), LAST_BARRIER),
+    ),
     // Its one in-link is silent for the patience; then what comes on it is ignored.
-    Row {
-        call: Call::Tick(1006),
-        outcome: Outcome::Ok,
-        fate: None,
-        counts: (0, 1, 1, 1),
-        commit: Some(LAST_BARRIER),
-        promise: LAST_BARRIER,
-    },
-    Row {
-        call: Call::Take(PacketKind::Plain, 7, 3, 0),
-        outcome: Outcome::Ignored,
-        fate: None,
-        counts: (0, 0, 0, 0),
-        commit: None,
-        promise: LAST_BARRIER,
-    },
+    Row(
+        Call::Tick(1006),
+        Seen(OK, None, (0, 1, 1, 1), Some(LAST_BARRIER), LAST_BARRIER),
+    ),
+    Row(
+        Call::Take(PacketKind::Plain, 7, 3, 0),
+        Seen(Outcome::Ignored, None, (0, 0, 0, 0), None, LAST_BARRIER),
+    ),
 ];
 
 // A reliable message to itself. The host promises no more than its stamp until it is acknowledged; a tick puts it again.
 static SETTLES: [Row; 7] = [
-    Row {
-        call: Call::Send(Service::Reliable, 10),
-        outcome: Outcome::Ok,
-        fate: None,
-        counts: (0, 1, 0, 0),
-        commit: Some(10),
-        promise: 10,
-    },
-    Row {
-        call: Call::Take(PacketKind::Prepare, 0, 10, 10),
-        outcome: Outcome::Ok,
-        fate: Some(Fate::Held),
-        counts: (0, 1, 0, 0),
-        commit: Some(10),
-        promise: 10,
-    },
-    Row {
-        call: Call::Take(PacketKind::Prepare, 0, 10, 10),
-        outcome: Outcome::Ok,
-        fate: Some(Fate::Repeat),
-        counts: (0, 1, 0, 0),
-        commit: Some(10),
-        promise: 10,
-    },
-    Row {
-        call: Call::Tick(20),
-        outcome: Outcome::Ok,
-        fate: None,
-        counts: (0, 2, 0, 0),
-        commit: Some(10),
-        promise: 10,
-    },
-    Row {
-        call: Call::Take(PacketKind::Ack, 0, 10, 10),
-        outcome: Outcome::Ok,
-        fate: None,
-        counts: (0, 0, 0, 0),
-        commit: None,
-        promise: 20,
-    },
-    Row {
-        call: Call::Tick(21),
-        outcome: Outcome::Ok,
-        fate: None,
-        counts: (0, 1, 0, 0),
-        commit: Some(21),
-        promise: 21,
-    },
-    Row {
-        call: Call::Take(PacketKind::Beacon, 0, 0, 21),
-        outcome: Outcome::Ok,
-        fate: None,
-        counts: (1, 0, 0, 0),
-        commit: None,
-        promise: 21,
-    },
+    Row(
+        Call::Send(Service::Reliable, 10),
+        Seen(OK, None, (0, 1, 0, 0), Some(10), 10),
+    ),
+    Row(
+        Call::Take(PacketKind::Prepare, 0, 10, 10),
+        Seen(OK, Some(Fate::Held), (0, 1, 0, 0), Some(10), 10),
+    ),
+    Row(
+        Call::Take(PacketKind::Prepare, 0, 10, 10),
+        Seen(OK, Some(Fate::Repeat), (0, 1, 0, 0), Some(10), 10),
+    ),
+    Row(Call::Tick(20), Seen(OK, None, (0, 2, 0, 0), Some(10), 10)),
+    Row(
+        Call::Take(PacketKind::Ack, 0, 10, 10),
+        Seen(OK, None, (0, 0, 0, 0), None, 20),
+    ),
+    Row(Call::Tick(21), Seen(OK, None, (0, 1, 0, 0), Some(21), 21)),
+    Row(
+        Call::Take(PacketKind::Beacon, 0, 0, 21),
+        Seen(OK, None, (1, 0, 0, 0), None, 21),
+    ),
 ];
 
 // Of a host that is noted as failed, reliable messages from its time on are void; best effort is not touched.
 static DISCARDS: [Row; 6] = [
-    Row {
-        call: Call::Take(PacketKind::Prepare, 7, 6, 0),
-        outcome: Outcome::Ok,
-        fate: Some(Fate::Held),
-        counts: (0, 0, 0, 0),
-        commit: None,
-        promise: 0,
-    },
-    Row {
-        call: Call::Notice(7, 5),
-        outcome: Outcome::Ok,
-        fate: None,
-        counts: (0, 0, 0, 0),
-        commit: None,
-        promise: 0,
-    },
-    Row {
-        call: Call::Take(PacketKind::Prepare, 7, 5, 0),
-        outcome: Outcome::Ok,
-        fate: Some(Fate::Discarded { time: Ts(5) }),
-        counts: (0, 0, 0, 0),
-        commit: None,
-        promise: 0,
-    },
-    Row {
-        call: Call::Take(PacketKind::Plain, 7, 5, 0),
-        outcome: Outcome::Ok,
-        fate: Some(Fate::Held),
-        counts: (0, 0, 0, 0),
-        commit: None,
-        promise: 0,
-    },
-    Row {
-        call: Call::Take(PacketKind::Prepare, 7, 4, 0),
-        outcome: Outcome::Ok,
-        fate: Some(Fate::Held),
-        counts: (0, 0, 0, 0),
-        commit: None,
-        promise: 0,
-    },
-    Row {
-        call: Call::Take(PacketKind::Beacon, 0, 0, 10),
-        outcome: Outcome::Ok,
-        fate: None,
-        counts: (2, 0, 0, 0),
-        commit: None,
-        promise: 6,
-    },
+    Row(
+        Call::Take(PacketKind::Prepare, 7, 6, 0),
+        Seen(OK, Some(Fate::Held), (0, 0, 0, 0), None, 0),
+    ),
+    Row(Call::Notice(7, 5), Seen(OK, None, (0, 0, 0, 0), None, 0)),
+    Row(
+        Call::Take(PacketKind::Prepare, 7, 5, 0),
+        Seen(OK, DISCARDED, (0, 0, 0, 0), None, 0),
+    ),
+    Row(
+        Call::Take(PacketKind::Plain, 7, 5, 0),
+        Seen(OK, Some(Fate::Held), (0, 0, 0, 0), None, 0),
+    ),
+    Row(
+        Call::Take(PacketKind::Prepare, 7, 4, 0),
+        Seen(OK, Some(Fate::Held), (0, 0, 0, 0), None, 0),
+    ),
+    Row(
+        Call::Take(PacketKind::Beacon, 0, 0, 10),
+        Seen(OK, None, (2, 0, 0, 0), None, 6),
+    ),
 ];
 
 // What is taken back is not logged, whether it came before or comes later. Each recall is answered.
 static TAKES_BACK: [Row; 10] = [
-    Row {
-        call: Call::Take(PacketKind::Prepare, 0, 30, 0),
-        outcome: Outcome::Ok,
-        fate: Some(Fate::Held),
-        counts: (0, 1, 0, 0),
-        commit: Some(0),
-        promise: 0,
-    },
-    Row {
-        call: Call::Take(PacketKind::Recall, 0, 30, 0),
-        outcome: Outcome::Ok,
-        fate: None,
-        counts: (0, 1, 0, 0),
-        commit: Some(0),
-        promise: 0,
-    },
-    Row {
-        call: Call::Take(PacketKind::Prepare, 0, 30, 0),
-        outcome: Outcome::Ok,
-        fate: Some(Fate::Recalled),
-        counts: (0, 0, 0, 0),
-        commit: None,
-        promise: 0,
-    },
-    Row {
-        call: Call::Take(PacketKind::Recall, 0, 31, 0),
-        outcome: Outcome::Ok,
-        fate: None,
-        counts: (0, 1, 0, 0),
-        commit: Some(0),
-        promise: 0,
-    },
-    Row {
-        call: Call::Take(PacketKind::Recall, 0, 31, 0),
-        outcome: Outcome::Ok,
-        fate: None,
-        counts: (0, 1, 0, 0),
-        commit: Some(0),
-        promise: 0,
-    },
-    Row {
-        call: Call::Take(PacketKind::Prepare, 0, 31, 0),
-        outcome: Outcome::Ok,
-        fate: Some(Fate::Recalled),
-        counts: (0, 0, 0, 0),
-        commit: None,
-        promise: 0,
-    },
-    Row {
-        call: Call::Take(PacketKind::Beacon, 0, 0, 31),
-        outcome: Outcome::Ok,
-        fate: None,
-        counts: (0, 0, 0, 0),
-        commit: None,
-        promise: 0,
-    },
-    Row {
-        call: Call::Take(PacketKind::Prepare, 0, 30, 31),
-        outcome: Outcome::Ok,
-        fate: Some(Fate::Late { barrier: Ts(31) }),
-        counts: (0, 0, 0, 0),
-        commit: None,
-        promise: 0,
-    },
-    Row {
-        call: Call::Take(PacketKind::Prepare, 0, 31, 31),
-        outcome: Outcome::Ok,
-        fate: Some(Fate::Recalled),
-        counts: (0, 0, 0, 0),
-        commit: None,
-        promise: 0,
-    },
-    Row {
-        call: Call::Take(PacketKind::Beacon, 0, 0, 32),
-        outcome: Outcome::Ok,
-        fate: None,
-        counts: (0, 0, 0, 0),
-        commit: None,
-        promise: 0,
-    },
+    Row(
+        Call::Take(PacketKind::Prepare, 0, 30, 0),
+        Seen(OK, Some(Fate::Held), (0, 1, 0, 0), Some(0), 0),
+    ),
+    Row(
+        Call::Take(PacketKind::Recall, 0, 30, 0),
+        Seen(OK, None, (0, 1, 0, 0), Some(0), 0),
+    ),
+    Row(
+        Call::Take(PacketKind::Prepare, 0, 30, 0),
+        Seen(OK, Some(Fate::Recalled), (0, 0, 0, 0), None, 0),
+    ),
+    Row(
+        Call::Take(PacketKind::Recall, 0, 31, 0),
+        Seen(OK, None, (0, 1, 0, 0), Some(0), 0),
+    ),
+    Row(
+        Call::Take(PacketKind::Recall, 0, 31, 0),
+        Seen(OK, None, (0, 1, 0, 0), Some(0), 0),
+    ),
+    Row(
+        Call::Take(PacketKind::Prepare, 0, 31, 0),
+        Seen(OK, Some(Fate::Recalled), (0, 0, 0, 0), None, 0),
+    ),
+    Row(
+        Call::Take(PacketKind::Beacon, 0, 0, 31),
+        Seen(OK, None, (0, 0, 0, 0), None, 0),
+    ),
+    Row(
+        Call::Take(PacketKind::Prepare, 0, 30, 31),
+        Seen(OK, LATE, (0, 0, 0, 0), None, 0),
+    ),
+    Row(
+        Call::Take(PacketKind::Prepare, 0, 31, 31),
+        Seen(OK, Some(Fate::Recalled), (0, 0, 0, 0), None, 0),
+    ),
+    Row(
+        Call::Take(PacketKind::Beacon, 0, 0, 32),
+        Seen(OK, None, (0, 0, 0, 0), None, 0),
+    ),
 ];
 
 // Its one receiver has failed, so a scattering is given up. The controller is told how many failed hosts and dropped links are
 // known, and there is no beacon on a link that is dropped.
 static GIVES_UP: [Row; 7] = [
-    Row {
-        call: Call::Send(Service::Reliable, 10),
-        outcome: Outcome::Ok,
-        fate: None,
-        counts: (0, 1, 0, 0),
-        commit: Some(10),
-        promise: 10,
-    },
-    Row {
-        call: Call::Notice(0, 50),
-        outcome: Outcome::Ok,
-        fate: None,
-        counts: (0, 0, 0, 0),
-        commit: None,
-        promise: 11,
-    },
-    Row {
-        call: Call::Send(Service::Reliable, 12),
-        outcome: Outcome::DestFailed { host: HostId(0) },
-        fate: None,
-        counts: (0, 0, 0, 0),
-        commit: None,
-        promise: 11,
-    },
-    Row {
-        call: Call::Tick(20),
-        outcome: Outcome::Ok,
-        fate: None,
-        counts: (0, 1, 0, 1),
-        commit: Some(20),
-        promise: 20,
-    },
-    Row {
-        call: Call::Take(PacketKind::RecallAck, 0, 10, 10),
-        outcome: Outcome::Ok,
-        fate: None,
-        counts: (0, 0, 0, 0),
-        commit: None,
-        promise: 20,
-    },
-    Row {
-        call: Call::Drop(0),
-        outcome: Outcome::Ok,
-        fate: None,
-        counts: (0, 0, 0, 0),
-        commit: None,
-        promise: 20,
-    },
-    Row {
-        call: Call::Tick(30),
-        outcome: Outcome::Ok,
-        fate: None,
-        counts: (0, 0, 0, 2),
-        commit: None,
-        promise: 30,
-    },
+    Row(
+        Call::Send(Service::Reliable, 10),
+        Seen(OK, None, (0, 1, 0, 0), Some(10), 10),
+    ),
+    Row(Call::Notice(0, 50), Seen(OK, None, (0, 0, 0, 0), None, 11)),
+    Row(
+        Call::Send(Service::Reliable, 12),
+        Seen(UNSENT, None, (0, 0, 0, 0), None, 11),
+    ),
+    Row(Call::Tick(20), Seen(OK, None, (0, 1, 0, 1), Some(20), 20)),
+    Row(
+        Call::Take(PacketKind::RecallAck, 0, 10, 10),
+        Seen(OK, None, (0, 0, 0, 0), None, 20),
+    ),
+    Row(Call::Drop(0), Seen(OK, None, (0, 0, 0, 0), None, 20)),
+    Row(Call::Tick(30), Seen(OK, None, (0, 0, 0, 2), None, 30)),
 ];
 
 fn send(
@@ -445,11 +283,12 @@ fn make_all(
     rows: &[Row],
 ) -> Result<(), NoMemory> {
     let mut step = Step::new(alloc);
-    for row in rows {
-        make(rt, alloc, topology, host, row.call, &mut step)?;
-        assert!(rt; step.outcome == row.outcome && step.fate == row.fate);
-        assert!(rt; has_counts(&step, row.counts) && has_commit(&step, row.commit));
-        assert!(rt; host.promise().0 == row.promise);
+    for Row(call, Seen(outcome, fate, counts, commit, promise)) in rows {
+        make(rt, alloc, topology, host, *call, &mut step)?;
+        assert!(rt; step.outcome == *outcome && step.fate == *fate);
+        assert!(rt; has_counts(&step, *counts) && has_commit(&step, *commit));
+        assert!(rt; host.promise().0 == *promise);
+        *host = host.try_clone()?;
     }
     Ok(())
 }

@@ -135,6 +135,7 @@ fn make_all(
         assert!(rt; make(alloc, sender, *call)?);
         assert!(rt; sender.unsettled() == *unsettled && sender.promise(NEXT).0 == *promise);
         assert!(rt; owed(alloc, sender)? == *count && sender.is_recalling() == *recalling);
+        *sender = sender.try_clone()?;
     }
     Ok(())
 }

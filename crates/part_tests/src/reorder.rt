@@ -59,6 +59,7 @@ fn place_all(
 ) -> Result<(), NoMemory> {
     for (ts, src, fate) in places {
         assert!(rt; held.place(message(alloc, *ts, *src))? == *fate);
+        *held = held.try_clone()?;
     }
     Ok(())
 }

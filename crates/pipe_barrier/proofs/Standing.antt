@@ -1,5 +1,6 @@
 -- What is kept stands for one moment more, and what a search among the registers finds.
 use Rattle.std.proofs.Common.{◌≡◌, ℕ, ◌+◌, ◌<◌, ◌≤◌, ◌==◌, ◌&&◌, ◌||◌, if◌then◌else◌, max, min, Bool, true, false, cond, not, Option, None, Some, unwrap_or, option_map, nat_le, List, [], ◌∷◌, length, get_or, drop, map, filter, find, reverse, refl, sym, ap, ap₂, ◌∙◌, le_refl, le_trans, arith}
+use Rattle.std.proofs.lemmas.Bool.{and_parts, not-true}
 use Rattle.std.specs.List.{list_any}
 use Rattle.std.proofs.lemmas.List.{at_drop_more, at_drop_all}
 use Rattle.std.proofs.lemmas.Bool.Decides.{nat_tests}
@@ -186,23 +187,15 @@ abbrev bound_of : Plane → Barriers → ℕ
 bound_of BestEffort b = b.be.0
 bound_of Commit b = b.commit.0
 
-both : (s t : Bool) → (s && t) ≡ true → (s ≡ true) × (t ≡ true)
-both true t is = (refl, is)
-both false t is = absurd cc
-
-unlike : (t : Bool) → not t ≡ true → t ≡ false
-unlike true is = absurd cc
-unlike false is = refl
-
 held_at : (plane : Plane) (l : LinkId) (b : Barriers) (r : Register) → holds l b r ≡ true
     → ((l.0 == r.link.0) ≡ false) × (is_counted plane r ≡ true) × (value_of plane r ≤ bound_of plane b)
 held_at plane l b r is =
-    let other = both (not (l.0 == r.link.0)) _ is in
-    let up = both r.up _ other.1 in
-    let kept = both r.retained _ up.1 in
-    let bounds = both (nat_le r.be.0 b.be.0) (nat_le r.commit.0 b.commit.0) kept.1 in
+    let other = and_parts (not (l.0 == r.link.0)) _ is in
+    let up = and_parts r.up _ other.1 in
+    let kept = and_parts r.retained _ up.1 in
+    let bounds = and_parts (nat_le r.be.0 b.be.0) (nat_le r.commit.0 b.commit.0) kept.1 in
     let known = at plane up.0 kept.0 bounds.0 bounds.1 in
-    (unlike (l.0 == r.link.0) other.0, known.0, known.1)
+    (not-true (l.0 == r.link.0) other.0, known.0, known.1)
   where
     at : (plane : Plane) → r.up ≡ true → r.retained ≡ true → nat_le r.be.0 b.be.0 ≡ true → nat_le r.commit.0 b.commit.0 ≡ true
         → (is_counted plane r ≡ true) × (value_of plane r ≤ bound_of plane b)

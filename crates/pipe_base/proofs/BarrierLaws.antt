@@ -1,11 +1,13 @@
 -- Laws of registers and barriers, of both planes.
-use Rattle.std.proofs.Common.{◌≡◌, ℕ, zero, suc, ◌<◌, ◌≤◌, max, Bool, true, false, cond, ◌==◌, if◌then◌else◌, List, [], ◌∷◌, length, get_or, All, filter, IsTrue, ◌⊎◌, inl, inr, ⊎_elim, refl, ap, ◌∙◌, le_trans, le_refl, arith, eq-eqb, eqb-true}
-use Rattle.std.proofs.lemmas.Bool.{cases_lt, or_cases, or_left, or_right}
+use Rattle.std.proofs.Common.{◌≡◌, ℕ, zero, suc, ◌<◌, ◌≤◌, max, Bool, true, false, ◌==◌, if◌then◌else◌, List, [], ◌∷◌, length, get_or, All, filter, ◌⊎◌, inl, inr, ⊎_elim, ap, ◌∙◌, le_trans, le_refl, arith, eqb-true}
+use Rattle.std.proofs.lemmas.Bool.{cases_lt, or_cases}
+use Rattle.std.proofs.lemmas.Bool.Decides.{nat_tests}
+use Rattle.std.proofs.lemmas.Map.Views.{any-filter_same}
 use Rattle.pipe_base.specs.declared.name.LinkId.{LinkId}
 use Rattle.pipe_base.specs.declared.packet.Plane.{Plane}
 use Rattle.pipe_base.specs.declared.packet.Plane.TheVariants.{BestEffort, Commit}
-use Rattle.pipe_base.specs.Moment.{Moment, Received, Counted, WentDown, Dropped, is_up, is_retained, is_used, in_use, has_link}
-use Rattle.pipe_base.specs.Barrier.{field_of, HasReceived, IsPassedNow, is_look, IsPassed, IsGreatestOrZero, register, least_of, level, barrier}
+use Rattle.pipe_base.specs.Moment.{Moment, Received, Counted, WentDown, Dropped, is_used, in_use, has_link}
+use Rattle.pipe_base.specs.Barrier.{field_of, HasReceived, is_look, IsPassed, IsGreatestOrZero, register, least_of, level, barrier}
 
 -- ---- the least value over links
 
@@ -54,36 +56,20 @@ register-rises plane (Dropped l) past link = le_refl (register plane past link)
 -- the register is at least each bound received
 pub le-register : (plane : Plane) (b link : ℕ) (past : List Moment) → HasReceived plane b link past → b ≤ register plane past link
 le-register plane b link [] never = absurd never
-le-register plane b link (Received l be commit ∷ past) (inl here) =
-    le_trans here.1 (if_max-more (l == link) (register plane past link) (field_of plane be commit) (eq-eqb l link here.0))
-le-register plane b link (Received l be commit ∷ past) (inr before) =
-    le_trans (le-register plane b link past before) (if_max-old (l == link) (register plane past link) (field_of plane be commit))
-le-register plane b link (Counted l be commit ∷ past) (inl here) =
-    le_trans here.1 (if_max-more (l == link) (register plane past link) (field_of plane be commit) (eq-eqb l link here.0))
-le-register plane b link (Counted l be commit ∷ past) (inr before) =
-    le_trans (le-register plane b link past before) (if_max-old (l == link) (register plane past link) (field_of plane be commit))
+le-register plane b link (Received l be commit ∷ past) received =
+    let before = le-register plane b link past in grind (arith, nat_tests, before, received)
+le-register plane b link (Counted l be commit ∷ past) received =
+    let before = le-register plane b link past in grind (arith, nat_tests, before, received)
 le-register plane b link (WentDown l ∷ past) received = le-register plane b link past received
 le-register plane b link (Dropped l ∷ past) received = le-register plane b link past received
 
--- a bound above 0 that a register reaches was received by the last packet, or is reached without it
-reached_by : (t : Bool) (b l link old more : ℕ) → (l == link) ≡ t → b ≤ (if t then max old more else old) → ((l ≡ link) × (b ≤ more)) ⊎ (b ≤ old)
-reached_by false b l link old more is low = inr low
-reached_by true b l link old more is low = either (cases_lt old b)
-  where
-    either : (old < b) ⊎ (b ≤ old) → ((l ≡ link) × (b ≤ more)) ⊎ (b ≤ old)
-    either (inl above) = inl (eqb-true l link is, omega arith)
-    either (inr old_reaches) = inr old_reaches
-
-or_before : {P Q R : Type 0} → (Q → R) → P ⊎ Q → P ⊎ R
-or_before f (inl here) = inl here
-or_before f (inr before) = inr (f before)
-
+-- a bound above 0 that a register reaches was received
 pub HasReceived-from_register : (plane : Plane) (b link : ℕ) (past : List Moment) → 0 < b → b ≤ register plane past link → HasReceived plane b link past
 HasReceived-from_register plane b link [] some low = absurd (omega arith)
 HasReceived-from_register plane b link (Received l be commit ∷ past) some low =
-    or_before (HasReceived-from_register plane b link past some) (reached_by (l == link) b l link (register plane past link) (field_of plane be commit) refl low)
+    let before = HasReceived-from_register plane b link past some in grind (arith, nat_tests, before, low)
 HasReceived-from_register plane b link (Counted l be commit ∷ past) some low =
-    or_before (HasReceived-from_register plane b link past some) (reached_by (l == link) b l link (register plane past link) (field_of plane be commit) refl low)
+    let before = HasReceived-from_register plane b link past some in grind (arith, nat_tests, before, low)
 HasReceived-from_register plane b link (WentDown l ∷ past) some low = HasReceived-from_register plane b link past some low
 HasReceived-from_register plane b link (Dropped l ∷ past) some low = HasReceived-from_register plane b link past some low
 
@@ -117,23 +103,8 @@ IsPassed-le_barrier plane ins (m ∷ past) b (inr before) =
 pub IsPassed-from_barrier : (plane : Plane) (ins : List LinkId) (past : List Moment) (b : ℕ) → 0 < b → b ≤ barrier plane ins past → IsPassed plane ins past b
 IsPassed-from_barrier plane ins [] b some low = absurd (omega arith)
 IsPassed-from_barrier plane ins (m ∷ past) b some low =
-    or_before (IsPassed-from_barrier plane ins past b some) (look (is_look m) refl low)
-  where
-    old : ℕ
-    old = barrier plane ins past
-
-    new : ℕ
-    new = level plane ins (m ∷ past)
-
-    either : is_look m ≡ true → (old < b) ⊎ (b ≤ old) → b ≤ max old new
-        → (IsTrue (is_look m) × IsPassedNow plane ins (m ∷ past) b) ⊎ (b ≤ old)
-    either looks (inl above) reached = inl (looks, least_passed plane b (m ∷ past) (in_use plane ins (m ∷ past)) some (omega arith))
-    either looks (inr before) reached = inr before
-
-    look : (t : Bool) → is_look m ≡ t → b ≤ (if t then max old new else old)
-        → (IsTrue (is_look m) × IsPassedNow plane ins (m ∷ past) b) ⊎ (b ≤ old)
-    look true looks reached = either looks (cases_lt old b) reached
-    look false counts reached = inr reached
+    let before = IsPassed-from_barrier plane ins past b some in
+    let now = least_passed plane b (m ∷ past) (in_use plane ins (m ∷ past)) some in grind (arith, nat_tests, before, now, low)
 
 pub barrier-is_greatest : (plane : Plane) (ins : List LinkId) (past : List Moment) → IsGreatestOrZero (IsPassed plane ins past) (barrier plane ins past)
 barrier-is_greatest plane ins past = record {
@@ -147,37 +118,22 @@ barrier-is_greatest plane ins past = record {
 
 -- ---- a link in use bounds the barrier
 
-if_false : (t b : Bool) → (if t then false else b) ≡ true → b ≡ true
-if_false true b is = cc
-if_false false b is = is
-
 -- the use of a link is lost for good
 pub is_used-before : (plane : Plane) (m : Moment) (past : List Moment) (link : ℕ) → is_used plane (m ∷ past) link ≡ true → is_used plane past link ≡ true
 is_used-before BestEffort (Received l be commit) past link used = used
 is_used-before BestEffort (Counted l be commit) past link used = used
-is_used-before BestEffort (WentDown l) past link used = if_false (l == link) (is_up past link) used
-is_used-before BestEffort (Dropped l) past link used = if_false (l == link) (is_up past link) used
+is_used-before BestEffort (WentDown l) past link used = grind (arith, nat_tests, used)
+is_used-before BestEffort (Dropped l) past link used = grind (arith, nat_tests, used)
 is_used-before Commit (Received l be commit) past link used = used
 is_used-before Commit (Counted l be commit) past link used = used
 is_used-before Commit (WentDown l) past link used = used
-is_used-before Commit (Dropped l) past link used = if_false (l == link) (is_retained past link) used
+is_used-before Commit (Dropped l) past link used = grind (arith, nat_tests, used)
 
 -- a link that passes a test is among those that pass it
-stays_among : (t : Bool) (link : ℕ) (l : LinkId) (ls : List LinkId) → (l.0 == link) ≡ true → t ≡ true → has_link link (cond t (l ∷ ls) ls) ≡ true
-stays_among true link l ls same passes = or_left (l.0 == link) (has_link link ls) same
-stays_among false link l ls same passes = cc
-
-is_among_later : (t : Bool) (link : ℕ) (l : LinkId) (ls : List LinkId) → has_link link ls ≡ true → has_link link (cond t (l ∷ ls) ls) ≡ true
-is_among_later true link l ls later = or_right (l.0 == link) (has_link link ls) later
-is_among_later false link l ls later = later
-
 pub filter-among : (test : LinkId → Bool) (link : ℕ) (ls : List LinkId) → ((l : LinkId) → l.0 ≡ link → test l ≡ true)
     → has_link link ls ≡ true → has_link link (filter test ls) ≡ true
-filter-among test link [] passes among = among
-filter-among test link (l ∷ ls) passes among =
-    ⊎_elim (λ (same : (l.0 == link) ≡ true). stays_among (test l) link l (filter test ls) same (passes l (eqb-true l.0 link same)))
-    (λ (later : has_link link ls ≡ true). is_among_later (test l) link l (filter test ls) (filter-among test link ls passes later))
-    (or_cases (l.0 == link) (has_link link ls) among)
+filter-among test link ls passes among =
+    any-filter_same (λ l. l.0 == link) test true (λ l same. passes l (eqb-true l.0 link same)) ls ∙ among
 
 pub in_use-among : (plane : Plane) (ins : List LinkId) (past : List Moment) (link : ℕ) → has_link link ins ≡ true
     → is_used plane past link ≡ true → has_link link (in_use plane ins past) ≡ true

@@ -1,19 +1,13 @@
 -- What is settled stays settled whatever happens, the promise is below each scattering that is not settled, and rises.
-use Rattle.std.proofs.Common.{◌≡◌, ℕ, ◌<◌, ◌≤◌, ◌&&◌, ◌||◌, ◌==◌, not, Bool, true, false, if◌then◌else◌, List, [], ◌∷◌, ◌++◌, filter, refl, sym, subst, ap, arith}
+use Rattle.std.proofs.Common.{◌≡◌, ℕ, ◌<◌, ◌≤◌, ◌&&◌, ◌==◌, not, Bool, true, false, if◌then◌else◌, List, [], ◌∷◌, ◌++◌, filter, refl, sym, subst, arith}
 use Rattle.std.specs.List.{All, list_all, list_any}
+use Rattle.std.proofs.lemmas.Bool.{and_right, or_from, or_left, or_right}
+use Rattle.std.proofs.lemmas.Bool.Decides.{nat_tests}
 use Rattle.std.proofs.lemmas.List.Elements.{All-nil, All-cons, All-head, All-tail, All-weaker, All-append, All-filter, filter-append}
 use Rattle.pipe_base.specs.Failed.{is_announced}
 use Rattle.pipe_base.specs.Promise.{least_from, least_or, promise_of}
 use Rattle.pipe_base.specs.Scattering.{Scattering, SenderCall, Acked, Began, Noted, RecallAcked, AreRising, begun, is_begun}
 use Rattle.pipe_base.specs.Settled.{awaits, has_failed, is_acked, is_noted, is_prepared, is_recall_acked, is_recalled, is_settled, unsettled}
-
-or_left : (a b : Bool) → a ≡ true → (a || b) ≡ true
-or_left true b is = refl
-or_left false b is = cc
-
-or_right : (a b : Bool) → b ≡ true → (a || b) ≡ true
-or_right true b is = refl
-or_right false b is = is
 
 -- an acknowledgement that counts keeps counting
 pub acked_stays : (c : SenderCall) (calls : List SenderCall) (ts host : ℕ) → is_acked calls ts host ≡ true → is_acked (c ∷ calls) ts host ≡ true
@@ -43,88 +37,49 @@ recall_acked_stays (Acked t h) calls s host is = is
 recall_acked_stays (Noted failed) calls s host is = is
 recall_acked_stays (RecallAcked t h) calls s host is = or_right (((s.ts.0 == t) && (host == h)) && is_recalled calls s) (is_recall_acked calls s host) is
 
-or_true : (b : Bool) → (b || true) ≡ true
-or_true true = refl
-or_true false = refl
-
-unwaited : (a b x y : Bool) → (a ≡ true → x ≡ true) → (b ≡ true → y ≡ true) → not (a || b) ≡ false → not (x || y) ≡ false
-unwaited true b x y here there is = let first : x ≡ true = here refl in rw first refl
-unwaited false true x y here there is = let second : y ≡ true = there refl in rw second (ap not (or_true x))
-unwaited false false x y here there is = cc
-
 -- a receiver that is not waited for is never waited for again
 pub unwaited_stays : (c : SenderCall) (calls : List SenderCall) (s : Scattering) (host : ℕ) → awaits calls s host ≡ false → awaits (c ∷ calls) s host ≡ false
 unwaited_stays c calls s host is =
-    unwaited (is_noted calls host) (is_recall_acked calls s host) (is_noted (c ∷ calls) host) (is_recall_acked (c ∷ calls) s host)
-    (noted_stays c calls host) (recall_acked_stays c calls s host) is
-
-more_here : (before now rest left : Bool) → (before ≡ true → now ≡ true) → (rest ≡ true → left ≡ true) → (before && rest) ≡ true → (now && left) ≡ true
-more_here true now rest left here there is = let first : now ≡ true = here refl in rw first (there is)
-more_here false now rest left here there is = cc
+    let noted = noted_stays c calls host in
+    let back = recall_acked_stays c calls s host in grind (arith, nat_tests, noted, back, is)
 
 all_more : {X : Type 0} (p q : X → Bool) (xs : List X) → ((x : X) → p x ≡ true → q x ≡ true) → list_all p xs ≡ true → list_all q xs ≡ true
 all_more p q [] more all = refl
-all_more p q (x ∷ xs) more all = more_here (p x) (q x) (list_all p xs) (list_all q xs) (more x) (all_more p q xs more) all
-
-less_here : (before now rest left : Bool) → (before ≡ false → now ≡ false) → (rest ≡ false → left ≡ false) → (before || rest) ≡ false → (now || left) ≡ false
-less_here true now rest left here there is = cc
-less_here false now rest left here there is = let first : now ≡ false = here refl in rw first (there is)
+all_more p q (x ∷ xs) more all =
+    let here = more x in let rest = all_more p q xs more in grind (arith, nat_tests, here, rest, all)
 
 none_more : {X : Type 0} (p q : X → Bool) (xs : List X) → ((x : X) → p x ≡ false → q x ≡ false) → list_any p xs ≡ false → list_any q xs ≡ false
 none_more p q [] less none = refl
-none_more p q (x ∷ xs) less none = less_here (p x) (q x) (list_any p xs) (list_any q xs) (less x) (none_more p q xs less) none
+none_more p q (x ∷ xs) less none =
+    let here = less x in let rest = none_more p q xs less in grind (arith, nat_tests, here, rest, none)
 
 -- what all receivers acknowledged they acknowledged for good
 pub prepared_stays : (c : SenderCall) (calls : List SenderCall) (s : Scattering) → is_prepared calls s ≡ true → is_prepared (c ∷ calls) s ≡ true
 prepared_stays c calls s is =
     all_more (λ d. is_acked calls s.ts.0 d.0.0) (λ d. is_acked (c ∷ calls) s.ts.0 d.0.0) s.dests (λ d acked. acked_stays c calls s.ts.0 d.0.0 acked) is
 
-none_open : (p q : Bool) (rest left : Bool) → (left ≡ true → rest ≡ false) → (q && left) ≡ true → ((p && not q) || rest) ≡ false
-none_open p false rest left more is = cc
-none_open true true rest left more is = more is
-none_open false true rest left more is = more is
-
 none_without : {X : Type 0} (p q : X → Bool) (xs : List X) → list_all q xs ≡ true → list_any (λ x. p x && not (q x)) xs ≡ false
 none_without p q [] all = refl
-none_without p q (x ∷ xs) all = none_open (p x) (q x) (list_any (λ y. p y && not (q y)) xs) (list_all q xs) (none_without p q xs) all
-
-neither : (a b c : Bool) → a ≡ false → c ≡ false → (a || (b && c)) ≡ false
-neither true b c first last = cc
-neither false true c first last = last
-neither false false c first last = refl
+none_without p q (x ∷ xs) all = let rest = none_without p q xs in grind (arith, nat_tests, rest, all)
 
 -- what all receivers acknowledged, and is not recalled, is never recalled
 pub unrecalled_stays : (c : SenderCall) (calls : List SenderCall) (s : Scattering) → is_prepared calls s ≡ true → is_recalled calls s ≡ false → is_recalled (c ∷ calls) s ≡ false
 unrecalled_stays (Began t) calls s prepared is = is
 unrecalled_stays (Acked t h) calls s prepared is = is
 unrecalled_stays (Noted failed) calls s prepared is =
-    neither (is_recalled calls s) (is_begun calls s.ts.0) (has_failed (Noted failed ∷ calls) s) is
-    (none_without (λ d. is_noted (Noted failed ∷ calls) d.0.0) (λ d. is_acked calls s.ts.0 d.0.0) s.dests prepared)
+    or_from (is_recalled calls s) (is_begun calls s.ts.0 && has_failed (Noted failed ∷ calls) s) is
+    (and_right (is_begun calls s.ts.0) (has_failed (Noted failed ∷ calls) s)
+    (none_without (λ d. is_noted (Noted failed ∷ calls) d.0.0) (λ d. is_acked calls s.ts.0 d.0.0) s.dests prepared))
 unrecalled_stays (RecallAcked t h) calls s prepared is = is
-
-taken_back : (recalled waiting prepared : Bool) → recalled ≡ true → waiting ≡ false → (if recalled then not waiting else prepared) ≡ true
-taken_back recalled waiting prepared is none = rw (is, none) refl
-
-held : (recalled waiting prepared : Bool) → recalled ≡ false → prepared ≡ true → (if recalled then waiting else prepared) ≡ true
-held recalled waiting prepared is all = rw is all
-
-not_of : (b : Bool) → not b ≡ true → b ≡ false
-not_of true is = cc
-not_of false is = refl
-
-settled_as : (c : SenderCall) (calls : List SenderCall) (s : Scattering) (recalled : Bool) → is_recalled calls s ≡ recalled
-    → (if recalled then not (list_any (λ d. awaits calls s d.0.0) s.dests) else is_prepared calls s) ≡ true → is_settled (c ∷ calls) s ≡ true
-settled_as c calls s true recalled is =
-    taken_back (is_recalled (c ∷ calls) s) (list_any (λ d. awaits (c ∷ calls) s d.0.0) s.dests) (is_prepared (c ∷ calls) s) (recalled_stays c calls s recalled)
-    (none_more (λ d. awaits calls s d.0.0) (λ d. awaits (c ∷ calls) s d.0.0) s.dests (λ d less. unwaited_stays c calls s d.0.0 less)
-    (not_of (list_any (λ d. awaits calls s d.0.0) s.dests) is))
-settled_as c calls s false recalled is =
-    held (is_recalled (c ∷ calls) s) (not (list_any (λ d. awaits (c ∷ calls) s d.0.0) s.dests)) (is_prepared (c ∷ calls) s) (unrecalled_stays c calls s is recalled)
-    (prepared_stays c calls s is)
 
 -- what is settled stays settled
 pub settled_stays : (c : SenderCall) (calls : List SenderCall) (s : Scattering) → is_settled calls s ≡ true → is_settled (c ∷ calls) s ≡ true
-settled_stays c calls s is = settled_as c calls s (is_recalled calls s) refl is
+settled_stays c calls s is =
+    let recalled = recalled_stays c calls s in
+    let unrecalled = unrecalled_stays c calls s in
+    let prepared = prepared_stays c calls s in
+    let waiting = none_more (λ d. awaits calls s d.0.0) (λ d. awaits (c ∷ calls) s d.0.0) s.dests (λ d less. unwaited_stays c calls s d.0.0 less) in
+    grind (arith, nat_tests, recalled, unrecalled, prepared, waiting, is)
 
 -- what holds of all that a weaker test keeps holds of all that a stronger one keeps
 stays_of : (c : SenderCall) (calls : List SenderCall) (P : Scattering → Type 0) (s : Scattering) (ss : List Scattering) (before now : Bool)

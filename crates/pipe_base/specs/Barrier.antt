@@ -3,7 +3,7 @@ use Rattle.std.specs.Prelude.{◌≡◌, ◌⊎◌, ℕ, ◌<◌, ◌≤◌, ◌
 use Rattle.pipe_base.specs.declared.name.LinkId.{LinkId}
 use Rattle.pipe_base.specs.declared.packet.Plane.{Plane}
 use Rattle.pipe_base.specs.declared.packet.Plane.TheVariants.{BestEffort, Commit}
-use Rattle.pipe_base.specs.Moment.{Moment, Received, Counted, in_use}
+use Rattle.pipe_base.specs.Moment.{Moment, Received, Counted, WentDown, Dropped, in_use}
 
 -- the field of a packet that belongs to the plane
 abbrev pub field_of : Plane → ℕ → ℕ → ℕ
@@ -17,7 +17,8 @@ HasReceived plane bound link (Received l be commit ∷ past) = ((l ≡ link)
     × (bound ≤ field_of plane be commit)) ⊎ HasReceived plane bound link past
 HasReceived plane bound link (Counted l be commit ∷ past) = ((l ≡ link)
     × (bound ≤ field_of plane be commit)) ⊎ HasReceived plane bound link past
-HasReceived plane bound link (_ ∷ past) = HasReceived plane bound link past
+HasReceived plane bound link (WentDown l ∷ past) = HasReceived plane bound link past
+HasReceived plane bound link (Dropped l ∷ past) = HasReceived plane bound link past
 
 -- some in-link is in use, and from each of them a packet with at least the bound was received
 abbrev pub IsPassedNow : Plane → List LinkId → List Moment → ℕ → Type 0
@@ -27,7 +28,9 @@ IsPassedNow plane ins past bound = (0 < length (in_use plane ins past))
 -- bounds are looked at after each moment but a counted one
 abbrev pub is_look : Moment → Bool
 is_look (Counted l be commit) = false
-is_look _ = true
+is_look (Received l be commit) = true
+is_look (WentDown l) = true
+is_look (Dropped l) = true
 
 -- the bound was passed at some moment
 abbrev pub IsPassed : Plane → List LinkId → List Moment → ℕ → Type 0
@@ -47,7 +50,8 @@ register plane (Received l be commit ∷ past) link =
     if l == link then max (register plane past link) (field_of plane be commit) else register plane past link
 register plane (Counted l be commit ∷ past) link =
     if l == link then max (register plane past link) (field_of plane be commit) else register plane past link
-register plane (_ ∷ past) link = register plane past link
+register plane (WentDown l ∷ past) link = register plane past link
+register plane (Dropped l ∷ past) link = register plane past link
 
 -- the least value over the links, or 0 where there is none
 abbrev pub least_of : (ℕ → ℕ) → List LinkId → ℕ

@@ -22,13 +22,16 @@ abbrev pub is_up : List Moment → ℕ → Bool
 is_up [] link = true
 is_up (WentDown l ∷ past) link = if l == link then false else is_up past link
 is_up (Dropped l ∷ past) link = if l == link then false else is_up past link
-is_up (_ ∷ past) link = is_up past link
+is_up (Received l be commit ∷ past) link = is_up past link
+is_up (Counted l be commit ∷ past) link = is_up past link
 
 -- a link is retained until it is dropped
 abbrev pub is_retained : List Moment → ℕ → Bool
 is_retained [] link = true
 is_retained (Dropped l ∷ past) link = if l == link then false else is_retained past link
-is_retained (_ ∷ past) link = is_retained past link
+is_retained (Received l be commit ∷ past) link = is_retained past link
+is_retained (Counted l be commit ∷ past) link = is_retained past link
+is_retained (WentDown l ∷ past) link = is_retained past link
 
 -- a link is in best-effort use while it is up, and in commit use while it is retained
 abbrev pub is_used : Plane → List Moment → ℕ → Bool

@@ -8,6 +8,7 @@ use Rattle.std.proofs.lemmas.List.{take_at, take_all}
 use Rattle.pipe_base.specs.declared.fault.Size.TheVariants.{Bytes}
 use Rattle.pipe_graph.specs.Graph.{Graph}
 use Rattle.pipe_base.specs.Limits.{most_bytes}
+use Rattle.pipe_model.specs.OrderedRun.{IsOrderedRun}
 use Rattle.pipe_model.specs.declared.record.Record.{Record}
 use Rattle.pipe_text_input.specs.declared.input.Input.{Input}
 use Rattle.pipe_text_input.specs.declared.input.InputFault.{InputFault}
@@ -20,7 +21,7 @@ use Rattle.pipe_cli.specs.Answer.{AsksFor, CanRun, IsOfInput, IsWritten, DoesRep
 use Rattle.pipe_cli.specs.Form.{IsReplayForm}
 use Rattle.pipe_cli.specs.Input.{says, told}
 use Rattle.pipe_cli.specs.Read.{WasRead}
-use Rattle.pipe_cli.specs.Replay.{IsOrderedRun, IsOverfull, IsRefusal, Replays, replay_text}
+use Rattle.pipe_cli.specs.Replay.{IsOverfull, IsRefusal, Replays, replay_text}
 use Rattle.pipe_cli.specs.Running.{IsStopped}
 
 -- what is short enough says what its content is

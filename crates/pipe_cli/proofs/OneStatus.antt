@@ -1,8 +1,8 @@
 -- An input asks for one status alone.
-use Rattle.std.proofs.Common.{◌≡◌, ◌⊎◌, ℕ, ◌≤◌, List, [], ◌∷◌, ◌++◌, map, reverse, refl, ap, sym, subst, ◌∙◌, arith, inl, inr, append_assoc}
+use Rattle.std.proofs.Common.{◌≡◌, ◌⊎◌, ℕ, ◌+◌, ◌<◌, ◌≤◌, List, [], ◌∷◌, ◌++◌, reverse, refl, ap, sym, subst, ◌∙◌, arith, inl, inr, append_assoc}
 use Rattle.std.specs.Prelude.{sum_by}
 use Rattle.std.specs.Prelude as result
-use Rattle.std.proofs.lemmas.List.{map-append, reverse-append, reverse-reverse}
+use Rattle.std.proofs.lemmas.List.{reverse-append, reverse-reverse}
 use Rattle.std.proofs.lemmas.List.Sums.{sum_by-append}
 use Rattle.pipe_base.specs.declared.fault.Size.{Size}
 use Rattle.pipe_base.specs.declared.fault.Size.TheVariants.{Bytes, Events, Items}
@@ -11,8 +11,9 @@ use Rattle.pipe_base.specs.Limits.{most_items}
 use Rattle.pipe_model.specs.declared.event.Event.{Event}
 use Rattle.pipe_model.specs.declared.record.Record.{Record}
 use Rattle.pipe_model.specs.Items.{items_in, items_of}
-use Rattle.pipe_model.specs.Run.{IsHistory, IsRun, event_of}
-use Rattle.pipe_model_net.proofs.Determined.{run_same}
+use Rattle.pipe_model.specs.OneRun.{history_of, record_after, run_of}
+use Rattle.pipe_model.specs.Run.{IsRun}
+use Rattle.pipe_model_runs.proofs.OneRun.{run_only}
 use Rattle.pipe_text_input.specs.Content.{Content}
 use Rattle.pipe_topo.specs.Plan.{graph_of}
 use Rattle.pipe_cli.specs.declared.status.Status.{Status}
@@ -22,67 +23,55 @@ use Rattle.pipe_cli.specs.Input.{says}
 use Rattle.pipe_cli.specs.Replay.{IsTooLong}
 use Rattle.pipe_cli.specs.Running.{IsStopped}
 
-map_reverse : (xs : List Record) → map event_of (reverse xs) ≡ reverse (map event_of xs)
-map_reverse [] = refl
-map_reverse (x ∷ xs) =
-    ap (map event_of) (reverse-append (x ∷ []) xs) ∙ map-append event_of (reverse xs) (x ∷ [])
-    ∙ ap (λ (es : List Event). es ++ x.event ∷ []) (map_reverse xs) ∙ sym (reverse-append (x.event ∷ []) (map event_of xs))
+-- the history of later events begins with that of the earlier ones
+history_begins : (graph : Graph) (later earlier : List Event) → (newer : List Record) × (history_of graph (later ++ earlier) ≡ newer ++ history_of graph earlier)
+history_begins graph [] earlier = ([], refl)
+history_begins graph (event ∷ later) earlier =
+    let r : Record = record_after graph (history_of graph (later ++ earlier)) event in
+    let more = history_begins graph later earlier in (r ∷ more.0, ap (λ (rs : List Record). r ∷ rs) more.1)
 
--- a trace begins with the records of the first events
-record Begins (trace : List Record) (events : List Event) : Type 0 where
-  front : List Record
-  back : List Record
-  joined : trace ≡ front ++ back
-  events_are : map event_of front ≡ events
+-- so does the run
+run_begins : (graph : Graph) (before after : List Event) → (back : List Record) × (run_of graph (before ++ after) ≡ run_of graph before ++ back)
+run_begins graph before after =
+    let more = history_begins graph (reverse after) (reverse before) in (
+      reverse more.0,
+      ap (λ (es : List Event). reverse (history_of graph es)) (reverse-append before after) ∙ ap reverse more.1
+          ∙ reverse-append more.0 (history_of graph (reverse before)),
+    )
 
-begins : (trace : List Record) (before after : List Event) → map event_of trace ≡ before ++ after → Begins trace before
-begins trace [] after is = record { front = []; back = trace; joined = refl; events_are = refl }
-begins [] (b ∷ before) after is = cc
-begins (r ∷ trace) (b ∷ before) after is =
-    let first : r.event ≡ b = cc in
-    let rest : map event_of trace ≡ before ++ after = cc in
-    let more = begins trace before after rest in
-    record { front = r ∷ more.front; back = more.back; joined = ap (λ (rs : List Record). r ∷ rs) more.joined; events_are = cc (first, more.events_are) }
+-- the run of one event more
+run_then : (graph : Graph) (before : List Event) (event : Event)
+    → run_of graph (before ++ event ∷ []) ≡ run_of graph before ++ record_after graph (reverse (run_of graph before)) event ∷ []
+run_then graph before event =
+    let h : List Record = history_of graph (reverse before) in
+    ap (λ (es : List Event). reverse (history_of graph es)) (reverse-append before (event ∷ []))
+    ∙ reverse-append (record_after graph h event ∷ []) h
+    ∙ ap (λ (past : List Record). reverse h ++ record_after graph past event ∷ []) (sym (reverse-reverse h))
 
--- what happened before the newest records is a history too
-older : (graph : Graph) (newer past : List Record) → IsHistory graph (newer ++ past) → IsHistory graph past
-older graph [] past run = run
-older graph (r ∷ newer) past run = older graph newer past run.0
-
--- two traces of the same events are the same
-traces_same : (graph : Graph) (one other : List Record) → IsHistory graph (reverse one) → IsHistory graph (reverse other) → map event_of one ≡ map event_of other → one ≡ other
-traces_same graph one other run_one run_other same =
-    let turned : reverse one ≡ reverse other =
-    run_same graph (reverse one) (reverse other) run_one run_other (map_reverse one ∙ ap reverse same ∙ sym (map_reverse other)) in
-    sym (reverse-reverse one) ∙ ap reverse turned ∙ reverse-reverse other
+-- where a run has to stop, all of it puts too much
+stopped_over : (graph : Graph) (events : List Event) (items : ℕ) → IsStopped graph events items → most_items < items_of (run_of graph events)
+stopped_over graph events items stopped =
+    let before : List Record = run_of graph stopped.before in
+    let next : Record = record_after graph (reverse before) stopped.event in
+    let split : events ≡ (stopped.before ++ stopped.event ∷ []) ++ stopped.after =
+    stopped.events_are ∙ sym (append_assoc stopped.before (stopped.event ∷ []) stopped.after) in
+    let more = run_begins graph (stopped.before ++ stopped.event ∷ []) stopped.after in
+    let all : run_of graph events ≡ (before ++ next ∷ []) ++ more.0 =
+    ap (run_of graph) split ∙ more.1 ∙ ap (λ (rs : List Record). rs ++ more.0) (run_then graph stopped.before stopped.event) in
+    omega (
+      arith,
+      ap items_of all,
+      sum_by-append items_in (before ++ next ∷ []) more.0,
+      sum_by-append items_in before (next ∷ []),
+      stopped.overfills.over.items_are,
+      stopped.overfills.over.many,
+    )
 
 -- A run that stays within the limit has no event at which it has to stop.
 never_stops : (graph : Graph) (events : List Event) (trace : List Record) (items : ℕ) → IsRun graph events trace → items_of trace ≤ most_items → IsStopped graph events items → ⊥
 never_stops graph events trace items run within stopped =
-    let over = stopped.overfills in
-    let more : List Record = stopped.trace ++ over.next ∷ [] in
-    let split : map event_of trace ≡ (stopped.before ++ stopped.event ∷ []) ++ stopped.after =
-    run.events_are ∙ stopped.events_are ∙ sym (append_assoc stopped.before (stopped.event ∷ []) stopped.after) in
-    let first = begins trace (stopped.before ++ stopped.event ∷ []) stopped.after split in
-    let front_runs : IsHistory graph (reverse first.front) =
-    older graph (reverse first.back) (reverse first.front)
-    (subst (IsHistory graph) (ap reverse first.joined ∙ reverse-append first.front first.back) run.rules) in
-    let more_runs : IsHistory graph (reverse more) =
-    subst (IsHistory graph) (sym (reverse-append stopped.trace (over.next ∷ []))) (stopped.run.rules, over.rules) in
-    let more_events : map event_of more ≡ stopped.before ++ stopped.event ∷ [] =
-    map-append event_of stopped.trace (over.next ∷ []) ∙ ap (λ (e : Event). map event_of stopped.trace ++ e ∷ []) over.event_is
-    ∙ ap (λ (es : List Event). es ++ stopped.event ∷ []) stopped.run.events_are in
-    let front_is : first.front ≡ more = traces_same graph first.front more front_runs more_runs (first.events_are ∙ sym more_events) in
-    omega (
-      arith,
-      ap items_of first.joined,
-      ap items_of front_is,
-      sum_by-append items_in first.front first.back,
-      sum_by-append items_in stopped.trace (over.next ∷ []),
-      over.over.items_are,
-      over.over.many,
-      within,
-    )
+    let over : most_items < items_of (run_of graph events) = stopped_over graph events items stopped in
+    omega (arith, over, within, ap items_of (run_only graph events trace run))
 
 -- two places in a list: the first comes before, the second does, or they are the same
 module _ (X : Type 0) where
@@ -107,8 +96,13 @@ module _ (X : Type 0) where
 stops_later : (graph : Graph) (events : List Event) (items more : ℕ) (one : IsStopped graph events items) (other : IsStopped graph events more) (m : List Event)
     → other.before ≡ one.before ++ one.event ∷ m → ⊥
 stops_later graph events items more one other m is =
-    never_stops graph other.before other.trace items other.run other.overfills.over.within
-    (record { before = one.before; event = one.event; after = m; events_are = is; trace = one.trace; run = one.run; overfills = one.overfills })
+    let over : most_items < items_of (run_of graph other.before) =
+    stopped_over graph other.before items (record { before = one.before; event = one.event; after = m; events_are = is; overfills = one.overfills }) in
+    let within : items_of (run_of graph other.before) ≤ most_items = other.overfills.over.within in omega (arith, over, within)
+
+-- how much the run puts with one event more
+abbrev items_after : Graph → List Event → Event → ℕ
+items_after graph before event = items_of (run_of graph before) + items_in (record_after graph (reverse (run_of graph before)) event)
 
 stops_once : (graph : Graph) (events : List Event) (items more : ℕ) → IsStopped graph events items → IsStopped graph events more → items ≡ more
 stops_once graph events items more one other =
@@ -117,17 +111,8 @@ stops_once graph events items more one other =
       | inr rest ↦ elim rest [
         | inl second ↦ absurd (stops_later graph events more items other one second.0 second.1)
         | inr both ↦
-            let over = one.overfills in
-            let under = other.overfills in
-            let traces : one.trace ≡ other.trace =
-            traces_same graph one.trace other.trace one.run.rules other.run.rules (one.run.events_are ∙ both.0 ∙ sym other.run.events_are) in
-            let more_runs : IsHistory graph (over.next ∷ reverse one.trace) = (one.run.rules, over.rules) in
-            let under_runs : IsHistory graph (under.next ∷ reverse other.trace) = (other.run.rules, under.rules) in
-            let steps : over.next ∷ reverse one.trace ≡ under.next ∷ reverse other.trace =
-            run_same graph (over.next ∷ reverse one.trace) (under.next ∷ reverse other.trace) more_runs under_runs
-            (cc (over.event_is, under.event_is, both.1, traces)) in
-            let nexts : over.next ≡ under.next = cc in
-            omega (arith, over.over.items_are, under.over.items_are, ap items_of traces, ap items_in nexts)
+            one.overfills.over.items_are ∙ ap (λ (es : List Event). items_after graph es one.event) both.0
+            ∙ ap (items_after graph other.before) both.1 ∙ sym other.overfills.over.items_are
       ]
     ]
 

@@ -1,11 +1,12 @@
 -- Lemmas on running events one by one.
-use Rattle.std.proofs.Common.{◌≡◌, ℕ, List, [], ◌∷◌, ◌++◌, map, refl, ap, sym, ◌∙◌, append_assoc}
+use Rattle.std.proofs.Common.{◌≡◌, ℕ, List, [], ◌∷◌, ◌++◌, map, refl, ap, sym, subst, ◌∙◌, append_assoc}
 use Rattle.std.proofs.lemmas.List.{map-append}
 use Rattle.pipe_graph.specs.Graph.{Graph}
 use Rattle.pipe_model.specs.declared.event.Event.{Event}
 use Rattle.pipe_model.specs.declared.record.Record.{Record}
 use Rattle.pipe_model.specs.Items.{Overfills}
 use Rattle.pipe_model.specs.Run.{event_of}
+use Rattle.pipe_model_runs.proofs.OneRun.{run_only}
 use Rattle.pipe_cli.specs.Running.{IsStopped}
 
 -- one event moves from those that are left to those that happened
@@ -27,7 +28,5 @@ stopped_at graph trace event old new events items is so_far overfills = record {
   event = event;
   after = new;
   events_are = sym so_far ∙ ap (λ (es : List Event). map event_of trace ++ es) is;
-  trace = trace;
-  run = record { events_are = refl; rules = overfills.past };
-  overfills = overfills;
+  overfills = subst (λ (t : List Record). Overfills graph t event items) (run_only graph (map event_of trace) trace (record { events_are = refl; rules = overfills.past })) overfills;
 }

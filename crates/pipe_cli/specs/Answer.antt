@@ -4,6 +4,7 @@ use Rattle.std.specs.Prelude as result
 use Rattle.std.specs.Io.KnownBytes.{Appends, Consumes, IsAtEnd}
 use Rattle.pipe_base.specs.Limits.{most_bytes}
 use Rattle.pipe_outside.specs.Outside.{Rose}
+use Rattle.pipe_model.specs.OrderedRun.{IsOrderedRun}
 use Rattle.pipe_model.specs.declared.record.Record.{Record}
 use Rattle.pipe_text_input.specs.Content.{Content, content_of}
 use Rattle.pipe_topo.specs.Plan.{graph_of}
@@ -13,7 +14,7 @@ use Rattle.pipe_cli.specs.declared.words.Form.{Form}
 use Rattle.pipe_cli.specs.Form.{IsReplayForm, IsSomeForm}
 use Rattle.pipe_cli.specs.Input.{says}
 use Rattle.pipe_cli.specs.Read.{WasRead}
-use Rattle.pipe_cli.specs.Replay.{IsOrderedRun, IsTooLong, replay_text}
+use Rattle.pipe_cli.specs.Replay.{IsTooLong, replay_text}
 
 -- the bytes tell a network and events, and their run puts no more than it may
 pub record CanRun (bytes : List ℕ) : Type 0 where

@@ -2,9 +2,8 @@
 use Rattle.std.specs.Prelude.{◌≡◌, ℕ, List, ◌∷◌, ◌++◌}
 use Rattle.pipe_graph.specs.Graph.{Graph}
 use Rattle.pipe_model.specs.declared.event.Event.{Event}
-use Rattle.pipe_model.specs.declared.record.Record.{Record}
 use Rattle.pipe_model.specs.Items.{Overfills}
-use Rattle.pipe_model.specs.Run.{IsRun}
+use Rattle.pipe_model.specs.OneRun.{run_of}
 
 -- The first of these events run, and the next one would put too much: so many items.
 pub record IsStopped (graph : Graph) (events : List Event) (items : ℕ) : Type 0 where
@@ -12,6 +11,4 @@ pub record IsStopped (graph : Graph) (events : List Event) (items : ℕ) : Type 
   pub event : Event
   pub after : List Event
   pub events_are : events ≡ before ++ event ∷ after
-  pub trace : List Record
-  pub run : IsRun graph before trace
-  pub overfills : Overfills graph trace event items
+  pub overfills : Overfills graph (run_of graph before) event items

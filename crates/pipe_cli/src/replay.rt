@@ -6,7 +6,8 @@ ghost use Rattle.pipe_model.specs.Run.{event_of};
 ghost use Rattle.pipe_text_input.specs.Content.{content_of};
 ghost use Rattle.pipe_text_input.specs.Read.{IsRead};
 ghost use Rattle.pipe_model.specs.Event.{IsOfGraph};
-ghost use Rattle.pipe_cli.specs.Replay.{IsOrderedRun, IsRefusal, Replays, replay_text};
+ghost use Rattle.pipe_model.specs.OrderedRun.{IsOrderedRun};
+ghost use Rattle.pipe_cli.specs.Replay.{IsRefusal, Replays, replay_text};
 ghost use Rattle.pipe_cli.specs.Running.{IsStopped};
 
 use crate::read::INPUT_LIMIT;
@@ -143,12 +144,12 @@ fn run_events(world: &mut World, events: EventList) -> Result<(), StepFault>
     Ok(())
 }
 
-/// Gives the room of the events that have happened back, once it is half of all.
+/// Gives the room of the events that have happened back, once it is two thirds of all. So an event moves half a time on average.
 fn give_back(left: &mut VecDeque<Event>)
     ensures items { left.new.items ≡ left.old.items }
     ensures len { deque_len left.new ≡ deque_len left.old }
 {
-    if left.len() < left.capacity() / 2 {
+    if left.len() < left.capacity() / 3 {
         left.shrink_to_fit();
     }
 }

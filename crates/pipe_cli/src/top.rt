@@ -36,9 +36,11 @@ pub fn run<S: Source, K: Sink>(
     ensures usage { (result.status ≡ Status.Usage) ↔ ¬ IsSomeForm (map string_bytes words.now) }
     ensures unread { result.status ≡ Status.Usage → source.new ≡ source.old }
     ensures input { IsOfInput (S.left source.old) (S.left source.new) result.status }
-    ensures cause { IsCaused result.status (S.faults source.old) (S.faults source.new) (K.faults sink.old) (K.faults sink.new) }
+    ensures cause { IsCaused result.status (S.faults source.old) (S.faults source.new) (K.faults sink.old)
+        (K.faults sink.new) }
     ensures replay { has_text result.status ≡ true
-        → DoesReplay (map string_bytes words.now) result.status (S.left source.old) (S.left source.new) (K.written sink.old) (K.written sink.new) result.trace }
+        → DoesReplay (map string_bytes words.now) result.status (S.left source.old) (S.left source.new)
+        (K.written sink.old) (K.written sink.new) result.trace }
     ensures last { result.status ≡ Status.WriteFault → EndsAtFault K.written K.faults sink.old sink.new }
     ensures silent { has_text result.status ≡ false → (sink.new ≡ sink.old) × (result.trace ≡ []) }
     ensures complete { ¬ Rose (S.faults source.old) (S.faults source.new)

@@ -41,7 +41,8 @@ fn alone(verb: &str) -> Option<Form>
 
 // The form of a verb and an option.
 fn with_option(verb: &str, option: &str) -> Option<Form>
-    ensures { result ≡ (if bytes_eq verb.now (codes "replay") && bytes_eq option.now (codes "--trace") then Some Form.ReplayTrace else None) }
+    ensures { result ≡ (if bytes_eq verb.now (codes "replay") && bytes_eq option.now (codes "--trace")
+        then Some Form.ReplayTrace else None) }
 {
     if verb == "replay" && option == "--trace" {
         Some(Form::ReplayTrace)

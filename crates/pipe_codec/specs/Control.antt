@@ -40,7 +40,9 @@ HasContents (message.Down link value) = value.0 < 2 ^ 48
 HasContents (message.Notice list) = (1 ≤ length list) × (length list ≤ most_announced)
     × All (λ e. e.time.0 < 2 ^ 48) list
 HasContents (message.DropLinks links) = (1 ≤ length links) × (length links ≤ most_dropped)
-HasContents _ = Unit {0}
+HasContents (message.Freeze link) = Unit {0}
+HasContents (message.Done host count) = Unit {0}
+HasContents (message.Gone node count) = Unit {0}
 
 -- a message whose parts fit their bytes, as far as the types of the parts do not say so
 pub record IsSendableControl (a : Addressed) : Type 0 where

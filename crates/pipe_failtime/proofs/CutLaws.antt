@@ -1,7 +1,7 @@
 -- Lemmas on hosts that are cut off.
 use Rattle.std.proofs.Common.{◌≡◌, ℕ, ◌<◌, ◌==◌, Bool, true, false, ◌&&◌, ◌||◌, not, List, [], ◌∷◌, ◌++◌, length, Option, ◌⊎◌, inl, inr, refl, sym, ◌∙◌, true≢false}
 use Rattle.std.specs.List.{list_any}
-use Rattle.std.proofs.lemmas.Bool.{eqb-true}
+use Rattle.std.proofs.lemmas.Bool.{and_from, and_parts, eqb-true, false_from_ne_true, not-true, not_from_false, or_cases, or_left, or_right}
 use Rattle.pipe_base.specs.declared.name.Ts.{Ts}
 use Rattle.pipe_graph.specs.Below.{any_below}
 use Rattle.pipe_graph.specs.Graph.{Graph, IsGraph, tail_of, head_of, is_half}
@@ -10,7 +10,6 @@ use Rattle.pipe_graph.specs.Reach.{feeds, reaches}
 use Rattle.pipe_graph.proofs.BelowLaws.{none_below}
 use Rattle.pipe_graph.proofs.PathLaws.{path_append, path_more}
 use Rattle.pipe_graph.proofs.Rounds.{has_path, is_reach}
-use Rattle.pipe_graph.proofs.Tests.{and_both, and_parts, not_from, not_gives, not_is, or_cases, or_left, or_right}
 use Rattle.pipe_graph.specs.Cut.{IsCut, is_cut}
 use Rattle.pipe_graph.specs.Reported.{is_reported, unreported}
 use Rattle.pipe_failtime.proofs.TestLaws.{and_fails, none_from}
@@ -29,7 +28,7 @@ link_or_reported g live reports n b l ls leaves rest = by_report (is_reported re
       | inr way ↦ inr (
         record {
           known = leaves.known;
-          used = and_both (live l) (not (is_reported reports l)) leaves.used (not_gives (is_reported reports l) isnt);
+          used = and_from (live l) (not (is_reported reports l)) leaves.used (not_from_false (is_reported reports l) isnt);
           begins = leaves.begins;
         },
         way,
@@ -56,7 +55,7 @@ path_or_reported g live reports a b (l ∷ ls) path =
 link_unreported : (live : ℕ → Bool) (reports : ℕ → Option Ts) (l : ℕ) (ls : List ℕ) → unreported live reports l ≡ true → list_any (is_reported reports) ls ≡ false
     → list_any (is_reported reports) (l ∷ ls) ≡ false
 link_unreported live reports l ls used rest =
-    neither (is_reported reports l) (list_any (is_reported reports) ls) (not_is (is_reported reports l) (and_parts (live l) (not (is_reported reports l)) used).1) rest
+    neither (is_reported reports l) (list_any (is_reported reports) ls) (not-true (is_reported reports l) (and_parts (live l) (not (is_reported reports l)) used).1) rest
   where
     neither : (s t : Bool) → s ≡ false → t ≡ false → (s || t) ≡ false
     neither true t h k = absurd (true≢false h)
@@ -76,7 +75,7 @@ path_unreported g live reports a b (l ∷ ls) path =
 pub cut_reaches_none : (g : Graph) (by kept : ℕ → Bool) (host end : ℕ) → is_cut g by kept host ≡ true → end < g.hosts → kept end ≡ true → reaches g by host end ≡ false
 cut_reaches_none g by kept host end cut lt is =
     and_fails (kept end) (reaches g by host end)
-    (none_below (λ k. kept k && reaches g by host k) g.hosts end (not_is (any_below (λ k. kept k && reaches g by host k) g.hosts) cut) lt) is
+    (none_below (λ k. kept k && reaches g by host k) g.hosts end (not-true (any_below (λ k. kept k && reaches g by host k) g.hosts) cut) lt) is
 
 pub cut_by_paths : (g : Graph) (live : ℕ → Bool) (reports : ℕ → Option Ts) (kept : ℕ → Bool) (host : ℕ) → IsGraph g
     → is_cut g (unreported live reports) kept host ≡ true → IsCut g live reports kept host
@@ -90,7 +89,7 @@ cut_by_paths g live reports kept host graph cut end path lt is live_path =
 pub paths_cut : (g : Graph) (live : ℕ → Bool) (reports : ℕ → Option Ts) (kept : ℕ → Bool) (host : ℕ)
     → IsCut g live reports kept host → is_cut g (unreported live reports) kept host ≡ true
 paths_cut g live reports kept host cut =
-    not_gives (any_below (λ k. kept k && reaches g (unreported live reports) host k) g.hosts)
+    not_from_false (any_below (λ k. kept k && reaches g (unreported live reports) host k) g.hosts)
     (none_from (λ k. kept k && reaches g (unreported live reports) host k) g.hosts
     (λ end lt both.
     let parts = and_parts (kept end) (reaches g (unreported live reports) host end) both in
@@ -114,5 +113,5 @@ fed_reaches g by host link graph inside used fed =
 pub cut_feeds_none : (g : Graph) (by kept : ℕ → Bool) (host link : ℕ) → IsGraph g → is_cut g by kept host ≡ true
     → link < length g.links → by link ≡ true → head_of g link < g.hosts → kept (head_of g link) ≡ true → feeds g by host link ≡ false
 cut_feeds_none g by kept host link graph cut inside used head_lt head_kept =
-    not_from (feeds g by host link) (λ fed.
+    false_from_ne_true (feeds g by host link) (λ fed.
     true≢false (sym (fed_reaches g by host link graph inside used fed) ∙ cut_reaches_none g by kept host (head_of g link) cut head_lt head_kept))

@@ -1,10 +1,10 @@
 -- Lemmas on the host that must go next: there is exactly one, where any is left.
 use Rattle.std.proofs.Common.{◌≡◌, ℕ, zero, suc, ◌<◌, ◌≤◌, ◌==◌, nat_lt, Bool, true, false, ◌&&◌, ◌||◌, not, if◌then◌else◌, Option, None, Some, inl, inr, refl, sym, subst, ◌∙◌, true≢false, arith}
+use Rattle.std.proofs.lemmas.Bool.{and_from, and_parts, false_from_ne_true, not-true, not_from_false}
 use Rattle.std.proofs.lemmas.Bool.Decides.{nat_tests}
 use Rattle.pipe_graph.specs.Below.{any_below}
 use Rattle.pipe_graph.specs.Graph.{Graph}
 use Rattle.pipe_graph.proofs.BelowLaws.{any_below_gives, none_below}
-use Rattle.pipe_graph.proofs.Tests.{and_parts, and_both, not_from, not_gives, not_is}
 use Rattle.pipe_graph.specs.Doomed.{Standing, GoesNext, are_partners, goes_before, goes_next, has_strangers, standing_of}
 use Rattle.pipe_failtime.specs.First.{first_to_go, goes_rather, next_to_go}
 use Rattle.pipe_failtime.proofs.TestLaws.{below_next, none_from, and_fails}
@@ -64,7 +64,7 @@ better g by left n (Some h) best is =
       inside = omega arith;
       among = parts.0;
       first = λ b lt among. elim (below_next n b lt) [
-        | inl below ↦ not_from (goes_before (standing_of g by left b) (standing_of g by left n))
+        | inl below ↦ false_from_ne_true (goes_before (standing_of g by left b) (standing_of g by left n))
             (λ rather. true≢false (sym (on (standing_of g by left b) (standing_of g by left n) (standing_of g by left h) rather parts.1) ∙ best.first b below among))
         | inr same ↦ subst (λ (k : ℕ). goes_before (standing_of g by left k) (standing_of g by left n) ≡ false) (sym same) (never (standing_of g by left n))
       ];
@@ -107,8 +107,8 @@ first_best g by left (suc n) = step (first_best g by left n) (goes_rather g by l
 
 first_goes : (g : Graph) (by left : ℕ → Bool) (host : ℕ) → IsFirst g by left g.hosts host → goes_next g by left host ≡ true
 first_goes g by left host is =
-    and_both (left host) (not (any_below (λ b. left b && goes_before (standing_of g by left b) (standing_of g by left host)) g.hosts)) is.among
-    (not_gives (any_below (λ b. left b && goes_before (standing_of g by left b) (standing_of g by left host)) g.hosts)
+    and_from (left host) (not (any_below (λ b. left b && goes_before (standing_of g by left b) (standing_of g by left host)) g.hosts)) is.among
+    (not_from_false (any_below (λ b. left b && goes_before (standing_of g by left b) (standing_of g by left host)) g.hosts)
     (none_from (λ b. left b && goes_before (standing_of g by left b) (standing_of g by left host)) g.hosts
     (λ b lt both. let parts = and_parts (left b) (goes_before (standing_of g by left b) (standing_of g by left host)) both in
     true≢false (sym parts.1 ∙ is.first b lt parts.0))))
@@ -116,7 +116,7 @@ first_goes g by left host is =
 pub goes_first : (g : Graph) (by left : ℕ → Bool) (host : ℕ) → host < g.hosts → goes_next g by left host ≡ true → IsFirst g by left g.hosts host
 goes_first g by left host lt goes =
     let parts = and_parts (left host) (not (any_below (λ b. left b && goes_before (standing_of g by left b) (standing_of g by left host)) g.hosts)) goes in
-    let none = not_is (any_below (λ b. left b && goes_before (standing_of g by left b) (standing_of g by left host)) g.hosts) parts.1 in
+    let none = not-true (any_below (λ b. left b && goes_before (standing_of g by left b) (standing_of g by left host)) g.hosts) parts.1 in
     record {
       inside = lt;
       among = parts.0;

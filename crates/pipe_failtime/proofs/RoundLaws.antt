@@ -1,13 +1,13 @@
 -- Lemmas on the rounds in which hosts are doomed.
 use Rattle.std.proofs.Common.{◌≡◌, ℕ, zero, suc, ◌+◌, ◌<◌, ◌≤◌, Bool, true, false, ◌&&◌, ◌||◌, not, List, length, set, None, Some, ◌⊎◌, inl, inr, refl, sym, ap, subst, ◌∙◌, true≢false, arith}
-use Rattle.std.proofs.lemmas.Bool.{ltb-true}
+use Rattle.std.proofs.lemmas.Bool.{and_from, and_parts, false_from_ne_true, ltb-true, not-true, not_from_false, or_cases, or_left, or_right}
 use Rattle.std.proofs.lemmas.Bool.Decides.{eqb_tells}
 use Rattle.std.proofs.lemmas.List.{get_or-set_same, get_or-set_other}
 use Rattle.pipe_graph.specs.Below.{any_below}
 use Rattle.pipe_graph.specs.Graph.{Graph, is_host}
 use Rattle.pipe_graph.specs.Reach.{reaches}
 use Rattle.pipe_graph.proofs.BelowLaws.{none_below}
-use Rattle.pipe_graph.proofs.Tests.{and_parts, and_both, not_from, not_gives, not_is, or_cases, or_left, or_right, same_tests}
+use Rattle.pipe_graph.proofs.Tests.{same_tests}
 use Rattle.pipe_topo.specs.Sets.{has}
 use Rattle.pipe_graph.specs.Count.{count_below}
 use Rattle.pipe_graph.specs.Doomed.{after_round, after_rounds, are_partners, doomed, goes_next, has_strangers, is_left}
@@ -20,7 +20,7 @@ left_parts : (g : Graph) (members gone : ℕ → Bool) (host : ℕ) → is_left 
 left_parts g members gone host among =
     let parts = and_parts (is_host g host) (members host && not (gone host)) among in
     let rest = and_parts (members host) (not (gone host)) parts.1 in
-    (ltb-true host g.hosts parts.0, rest.0, not_is (gone host) rest.1)
+    (ltb-true host g.hosts parts.0, rest.0, not-true (gone host) rest.1)
 
 -- where no two are strangers, any two that are left are partners
 pub partners_are : (g : Graph) (by left : ℕ → Bool) (a b : ℕ) → has_strangers g by left ≡ false → a < g.hosts → b < g.hosts → left a ≡ true → left b ≡ true → are_partners g by a b ≡ true
@@ -43,7 +43,7 @@ no_strangers g by left partners =
     true≢false (sym parts.1 ∙ none_from (λ b. left b && not (are_partners g by a b)) g.hosts
     (λ b b_lt again.
     let rest = and_parts (left b) (not (are_partners g by a b)) again in
-    true≢false (sym (partners a b a_lt b_lt parts.0 rest.0) ∙ not_is (are_partners g by a b) rest.1))))
+    true≢false (sym (partners a b a_lt b_lt parts.0 rest.0) ∙ not-true (are_partners g by a b) rest.1))))
 
 -- a round dooms nobody where no two are strangers
 pub round_same : (g : Graph) (by members gone : ℕ → Bool) → has_strangers g by (is_left g members gone) ≡ false → after_round g by members gone ≡ gone
@@ -97,11 +97,11 @@ round_left : (g : Graph) (by members gone : ℕ → Bool) (host : ℕ) → is_le
 round_left g by members gone host among =
     let parts = and_parts (is_host g host) (members host && not (after_round g by members gone host)) among in
     let rest = and_parts (members host) (not (after_round g by members gone host)) parts.1 in
-    and_both (is_host g host) (members host && not (gone host)) parts.0
-    (and_both (members host) (not (gone host)) rest.0
-    (not_gives (gone host) (not_from (gone host) (λ is.
+    and_from (is_host g host) (members host && not (gone host)) parts.0
+    (and_from (members host) (not (gone host)) rest.0
+    (not_from_false (gone host) (false_from_ne_true (gone host) (λ is.
     true≢false (sym (or_left (gone host) (has_strangers g by (is_left g members gone) && goes_next g by (is_left g members gone) host) is)
-    ∙ not_is (after_round g by members gone host) rest.1)))))
+    ∙ not-true (after_round g by members gone host) rest.1)))))
 
 -- a round in which two are strangers leaves fewer hosts
 pub round_falls : (g : Graph) (by members gone : ℕ → Bool) → has_strangers g by (is_left g members gone) ≡ true
@@ -112,10 +112,10 @@ round_falls g by members gone some =
     let next = goes_first g by (is_left g members gone) goes.0 goes.1 goes.2 in
     let dooms : after_round g by members gone goes.0 ≡ true =
     or_right (gone goes.0) (has_strangers g by (is_left g members gone) && goes_next g by (is_left g members gone) goes.0)
-    (and_both (has_strangers g by (is_left g members gone)) (goes_next g by (is_left g members gone) goes.0) some goes.2) in
+    (and_from (has_strangers g by (is_left g members gone)) (goes_next g by (is_left g members gone) goes.0) some goes.2) in
     count_falls (is_left g members (after_round g by members gone)) (is_left g members gone) g.hosts goes.0
     (λ host lt among. round_left g by members gone host among) goes.1
-    (not_from (is_left g members (after_round g by members gone) goes.0)
+    (false_from_ne_true (is_left g members (after_round g by members gone) goes.0)
     (λ still. let parts = left_parts g members (after_round g by members gone) goes.0 still in true≢false (sym dooms ∙ parts.2)))
     next.among
 
@@ -164,7 +164,7 @@ round_puts g by members gone host is inside =
       | inl same ↦ subst (λ (m : ℕ). has (set gone host true) m ≡ after_round g by members (has gone) m) (sym same.1)
           (get_or-set_same gone host true false inside
           ∙ sym (or_right (has gone host) (has_strangers g by (is_left g members (has gone)) && goes_next g by (is_left g members (has gone)) host)
-          (and_both (has_strangers g by (is_left g members (has gone))) (goes_next g by (is_left g members (has gone)) host) next.1 next.2)))
+          (and_from (has_strangers g by (is_left g members (has gone))) (goes_next g by (is_left g members (has gone)) host) next.1 next.2)))
       | inr other ↦ get_or-set_other gone host n true false other.1 ∙ sym (same_tests (after_round g by members (has gone) n) (has gone n)
           (λ round. elim (or_cases (has gone n) (has_strangers g by (is_left g members (has gone)) && goes_next g by (is_left g members (has gone)) n) round) [
             | inl before ↦ before

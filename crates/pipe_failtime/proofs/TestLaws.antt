@@ -1,10 +1,10 @@
 -- Lemmas on tests of the numbers below a bound, and on how many pass.
 use Rattle.std.proofs.Common.{◌⊎◌, inl, inr, ◌≡◌, ℕ, zero, suc, ◌+◌, ◌<◌, ◌≤◌, Bool, true, false, ◌&&◌, refl, sym, true≢false, arith}
+use Rattle.std.proofs.lemmas.Bool.{false_from_ne_true}
 use Rattle.std.proofs.lemmas.Bool.Decides.{eqb_tells}
 use Rattle.pipe_graph.specs.Below.{any_below}
 use Rattle.pipe_graph.proofs.BelowLaws as paths
 use Rattle.pipe_graph.proofs.BelowLaws.{any_below_gives, count_gains}
-use Rattle.pipe_graph.proofs.Tests.{not_from}
 use Rattle.pipe_graph.specs.Count.{count_below}
 
 pub none_more : (p : ℕ → Bool) (k : ℕ) → any_below p k ≡ false → p k ≡ false → any_below p (k + 1) ≡ false
@@ -13,7 +13,7 @@ none_more p k none isnt =
     rw e (rw (isnt, none) refl)
 
 pub none_from : (p : ℕ → Bool) (n : ℕ) → ((k : ℕ) → k < n → p k ≡ true → ⊥) → any_below p n ≡ false
-none_from p n none = not_from (any_below p n) (λ some. let found = any_below_gives p n some in none found.0 found.1 found.2)
+none_from p n none = false_from_ne_true (any_below p n) (λ some. let found = any_below_gives p n some in none found.0 found.1 found.2)
 
 -- the second of two tests fails where both together fail and the first passes
 pub and_fails : (s t : Bool) → (s && t) ≡ false → s ≡ true → t ≡ false

@@ -1,10 +1,10 @@
 -- Lemmas on failure times: the value is the greatest of those that were reported.
 use Rattle.std.proofs.Common.{◌≡◌, ℕ, zero, suc, ◌<◌, ◌≤◌, max, Bool, true, false, ◌&&◌, if◌then◌else◌, length, Option, None, Some, ◌⊎◌, inl, inr, refl, sym, ap, subst, ◌∙◌, arith}
+use Rattle.std.proofs.lemmas.Bool.{and_from, and_parts}
 use Rattle.std.proofs.lemmas.Bool.Decides.{leb_tells}
 use Rattle.pipe_base.specs.declared.name.Ts.{Ts}
 use Rattle.pipe_graph.specs.Graph.{Graph}
 use Rattle.pipe_graph.specs.Reach.{feeds}
-use Rattle.pipe_graph.proofs.Tests.{and_both, and_parts}
 use Rattle.pipe_graph.specs.FailureTime.{IsFailureTime, IsFedReport, failure_time, fed_report, later, latest_below}
 use Rattle.pipe_failtime.proofs.TestLaws.{below_next}
 
@@ -71,7 +71,7 @@ fed_gives g live reports host link value lt is = pick (live link && feeds g live
 fed_from : (g : Graph) (live : ℕ → Bool) (reports : ℕ → Option Ts) (host link : ℕ) (value : Ts)
     → IsFedReport g live reports host link value → fed_report g live reports host link ≡ Some value
 fed_from g live reports host link value is =
-    ap (λ (t : Bool). if t then reports link else None) (and_both (live link) (feeds g live host link) is.is_live is.fed) ∙ is.report
+    ap (λ (t : Bool). if t then reports link else None) (and_from (live link) (feeds g live host link) is.is_live is.fed) ∙ is.report
 
 -- the time in words, and back
 pub time_in_words : (g : Graph) (live : ℕ → Bool) (reports : ℕ → Option Ts) (host : ℕ) (time : Ts)

@@ -1,8 +1,8 @@
 -- Lemmas on tests of the numbers below a bound, and on how many pass.
 use Rattle.std.proofs.Common.{◌≡◌, ℕ, zero, suc, ◌+◌, ◌<◌, ◌≤◌, Bool, true, false, if◌then◌else◌, inl, inr, refl, sym, subst, ◌∙◌, true≢false, arith}
+use Rattle.std.proofs.lemmas.Bool.{false_from_ne_true, or_cases, or_left, or_right}
 use Rattle.std.proofs.lemmas.Bool.Decides.{eqb_tells}
 use Rattle.pipe_graph.specs.Below.{any_below}
-use Rattle.pipe_graph.proofs.Tests.{or_cases, or_left, or_right, not_from}
 
 pub any_below_gives : (p : ℕ → Bool) (n : ℕ) → any_below p n ≡ true → (k : ℕ) × (k < n) × (p k ≡ true)
 any_below_gives p zero h = absurd (true≢false (sym h))
@@ -21,7 +21,7 @@ any_below_from p (suc n) k lt h =
     ]
 
 pub none_below : (p : ℕ → Bool) (n k : ℕ) → any_below p n ≡ false → k < n → p k ≡ false
-none_below p n k none lt = not_from (p k) (λ h. true≢false (sym (any_below_from p n k lt h) ∙ none))
+none_below p n k none lt = false_from_ne_true (p k) (λ h. true≢false (sym (any_below_from p n k lt h) ∙ none))
 
 -- tests that agree below the bound
 pub any_below_alike : (p q : ℕ → Bool) (n : ℕ) → ((k : ℕ) → k < n → p k ≡ q k) → any_below p n ≡ any_below q n

@@ -1,10 +1,9 @@
 -- What "leads on within so many links" says: there is a list of links, both ways.
 use Rattle.std.proofs.Common.{◌≡◌, ℕ, zero, suc, ◌<◌, ◌≤◌, ◌==◌, Bool, true, ◌&&◌, ◌||◌, List, [], ◌∷◌, length, inl, inr, refl, ap, arith}
-use Rattle.std.proofs.lemmas.Bool.{eqb-true, eq-eqb}
+use Rattle.std.proofs.lemmas.Bool.{and_from, and_parts, eq-eqb, eqb-true, or_cases, or_left, or_right}
 use Rattle.pipe_graph.specs.Graph.{Graph, tail_of, head_of, is_half}
 use Rattle.pipe_graph.specs.Path.{LeavesBy, Leads}
 use Rattle.pipe_graph.specs.Reach.{goes_on, leads_within, reaches}
-use Rattle.pipe_graph.proofs.Tests.{and_parts, and_both, or_cases, or_left, or_right}
 use Rattle.pipe_graph.proofs.BelowLaws.{any_below_gives, any_below_from, any_below_alike}
 
 pub goes_on_gives : (g : Graph) (by : ℕ → Bool) (n : ℕ) (passes : ℕ → Bool) → goes_on g by n passes ≡ true
@@ -19,8 +18,8 @@ pub goes_on_from : (g : Graph) (by : ℕ → Bool) (n : ℕ) (passes : ℕ → B
     → goes_on g by n passes ≡ true
 goes_on_from g by n passes l leaves pass =
     any_below_from (λ (k : ℕ). (by k && (tail_of g k == n)) && passes (head_of g k)) (length g.links) l leaves.known
-    (and_both (by l && (tail_of g l == n)) (passes (head_of g l))
-    (and_both (by l) (tail_of g l == n) leaves.used (eq-eqb (tail_of g l) n leaves.begins)) pass)
+    (and_from (by l && (tail_of g l == n)) (passes (head_of g l))
+    (and_from (by l) (tail_of g l == n) leaves.used (eq-eqb (tail_of g l) n leaves.begins)) pass)
 
 pub within_leads : (g : Graph) (by : ℕ → Bool) (b k n : ℕ) → leads_within g by b k n ≡ true
     → (ls : List ℕ) × Leads g by n b ls × (length ls ≤ k)
@@ -45,7 +44,7 @@ leads_is_within g by b (l ∷ ls) (suc k) n leads few =
     let on : goes_on g by n (leads_within g by b k) ≡ true =
     goes_on_from g by n (leads_within g by b k) l leads.1 (leads_is_within g by b ls k (head_of g l) leads.2 (omega arith)) in
     or_right (n == b) (is_half g n && goes_on g by n (leads_within g by b k))
-    (and_both (is_half g n) (goes_on g by n (leads_within g by b k)) leads.0 on)
+    (and_from (is_half g n) (goes_on g by n (leads_within g by b k)) leads.0 on)
 
 -- one link more is no harm
 pub within_later : (g : Graph) (by : ℕ → Bool) (b k n : ℕ) → leads_within g by b k n ≡ true → leads_within g by b (suc k) n ≡ true

@@ -1,11 +1,10 @@
 -- As many links as there are nodes suffice to lead on: each round finds a new node, or no later round does.
 use Rattle.std.proofs.Common.{◌≡◌, ℕ, zero, suc, ◌+◌, ◌<◌, ◌≤◌, ◌==◌, Bool, true, false, ◌&&◌, not, List, [], ◌∷◌, ◌⊎◌, inl, inr, refl, sym, subst, ◌∙◌, true≢false, arith, ◌++◌}
-use Rattle.std.proofs.lemmas.Bool.{eq-eqb}
+use Rattle.std.proofs.lemmas.Bool.{and_from, and_parts, eq-eqb, not-true, not_from_false, or_left, or_right}
 use Rattle.pipe_graph.specs.Below.{any_below}
 use Rattle.pipe_graph.specs.Graph.{Graph, IsGraph, tail_of, head_of, is_half}
 use Rattle.pipe_graph.specs.Path.{Leads, IsPath}
 use Rattle.pipe_graph.specs.Reach.{goes_on, leads_within, reaches, feeds}
-use Rattle.pipe_graph.proofs.Tests.{and_parts, and_both, or_left, or_right, not_is, not_gives}
 use Rattle.pipe_graph.proofs.BelowLaws.{any_below_gives, none_below, count_below, count_gains, count_most}
 use Rattle.pipe_graph.proofs.PathLaws.{path_end, path_to_link}
 use Rattle.pipe_graph.proofs.ReachLaws.{goes_on_gives, goes_on_from, within_leads, leads_is_within, within_later}
@@ -22,7 +21,7 @@ stopped g by b k graph stops (l ∷ ls) n leads =
     goes_on_from g by n (leads_within g by b k) l leads.1 (stopped g by b k graph stops ls (head_of g l) leads.2) in
     let inside : n < g.nodes = subst (λ (m : ℕ). m < g.nodes) leads.1.begins (graph.tails_in l leads.1.known) in
     stops n inside (or_right (n == b) (is_half g n && goes_on g by n (leads_within g by b k))
-    (and_both (is_half g n) (goes_on g by n (leads_within g by b k)) leads.0 on))
+    (and_from (is_half g n) (goes_on g by n (leads_within g by b k)) leads.0 on))
 
 stops_later : (g : Graph) (by : ℕ → Bool) (b k : ℕ) → IsGraph g → Stops g by b k → Stops g by b (suc k)
 stops_later g by b k graph stops n lt h =
@@ -39,7 +38,7 @@ round_grows g by b k some =
     let found = any_below_gives (is_new g by b k) g.nodes some in
     let parts = and_parts (leads_within g by b (suc k) found.0) (not (leads_within g by b k found.0)) found.2 in
     count_gains (leads_within g by b k) (leads_within g by b (suc k)) g.nodes found.0
-    (λ n lt h. within_later g by b k n h) found.1 (not_is (leads_within g by b k found.0) parts.1) parts.0
+    (λ n lt h. within_later g by b k n h) found.1 (not-true (leads_within g by b k found.0) parts.1) parts.0
 
 round_stops : (g : Graph) (by : ℕ → Bool) (b k : ℕ) → any_below (is_new g by b k) g.nodes ≡ false → Stops g by b k
 round_stops g by b k none n lt h = by_cases (leads_within g by b k n) refl
@@ -47,7 +46,7 @@ round_stops g by b k none n lt h = by_cases (leads_within g by b k n) refl
     by_cases : (t : Bool) → leads_within g by b k n ≡ t → leads_within g by b k n ≡ true
     by_cases true is = is
     by_cases false is =
-        absurd (true≢false (sym (and_both (leads_within g by b (suc k) n) (not (leads_within g by b k n)) h (not_gives (leads_within g by b k n) is))
+        absurd (true≢false (sym (and_from (leads_within g by b (suc k) n) (not (leads_within g by b k n)) h (not_from_false (leads_within g by b k n) is))
         ∙ none_below (is_new g by b k) g.nodes n none lt))
 
 grows_or_stops : (g : Graph) (by : ℕ → Bool) (b : ℕ) → IsGraph g → b < g.nodes → (k : ℕ)
@@ -92,5 +91,5 @@ fed_along g by a b l before after graph path =
     elim (path_to_link g by a b l before after path) [
       | inl first ↦ or_left (a == tail_of g l) (is_half g (tail_of g l) && reaches g by a (tail_of g l)) (eq-eqb a (tail_of g l) first)
       | inr later ↦ or_right (a == tail_of g l) (is_half g (tail_of g l) && reaches g by a (tail_of g l))
-          (and_both (is_half g (tail_of g l)) (reaches g by a (tail_of g l)) later.0 (is_reach g by a (tail_of g l) before graph later.1))
+          (and_from (is_half g (tail_of g l)) (reaches g by a (tail_of g l)) later.0 (is_reach g by a (tail_of g l) before graph later.1))
     ]

@@ -1,10 +1,10 @@
 -- The test "begins a shortest path" is what it says, both ways.
 use Rattle.std.proofs.Common.{◌≡◌, ℕ, zero, suc, ◌+◌, ◌<◌, ◌≤◌, Bool, true, false, ◌&&◌, not, List, [], ◌∷◌, length, sym, ◌∙◌, true≢false, arith}
+use Rattle.std.proofs.lemmas.Bool.{and_from, and_parts, false_from_ne_true, not-true, not_from_false}
 use Rattle.pipe_graph.specs.Graph.{Graph, IsGraph, tail_of, head_of}
 use Rattle.pipe_graph.specs.Path.{IsPath}
 use Rattle.pipe_graph.specs.Reach.{leads_within}
 use Rattle.pipe_graph.specs.ShortestRoute.{BeginsShortest, comes_within, begins_shortest}
-use Rattle.pipe_graph.proofs.Tests.{and_parts, and_both, not_from, not_is, not_gives}
 use Rattle.pipe_graph.proofs.BelowLaws.{any_below_gives, any_below_from}
 use Rattle.pipe_graph.proofs.PathLaws.{path_end}
 use Rattle.pipe_graph.proofs.ReachLaws.{goes_on_gives, goes_on_from, within_leads, leads_is_within}
@@ -43,7 +43,7 @@ begins_gives g by n dst l lt begins h =
     record {
       rest = way.0;
       path = (record { known = lt; used = parts.0; begins = begins }, way.1);
-      least = λ q path. let more = longer g by dst n found.0 q (not_is (comes_within g by dst n found.0) both.1) path in omega arith;
+      least = λ q path. let more = longer g by dst n found.0 q (not-true (comes_within g by dst n found.0) both.1) path in omega arith;
     }
 
 -- a shortest path has at most one link more than there are nodes
@@ -58,10 +58,10 @@ pub begins_from : (g : Graph) (by : ℕ → Bool) (n dst l : ℕ) → IsGraph g 
 begins_from g by n dst l graph is =
     let few = rest_few g by n dst l graph is in
     let none : comes_within g by dst n (length is.rest) ≡ false =
-    not_from (comes_within g by dst n (length is.rest))
+    false_from_ne_true (comes_within g by dst n (length is.rest))
     (λ h. let shorter = comes_gives g by dst n (length is.rest) h in let least = is.least shorter.0 shorter.1 in absurd (omega arith)) in
-    and_both (by l) _ is.path.0.used
+    and_from (by l) _ is.path.0.used
     (any_below_from (is_count g by n dst l) (suc g.nodes) (length is.rest) (omega arith)
-    (and_both (leads_within g by dst (length is.rest) (head_of g l)) (not (comes_within g by dst n (length is.rest)))
+    (and_from (leads_within g by dst (length is.rest) (head_of g l)) (not (comes_within g by dst n (length is.rest)))
     (leads_is_within g by dst is.rest (length is.rest) (head_of g l) is.path.1 (omega arith))
-    (not_gives (comes_within g by dst n (length is.rest)) none)))
+    (not_from_false (comes_within g by dst n (length is.rest)) none)))

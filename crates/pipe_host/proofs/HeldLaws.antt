@@ -1,5 +1,5 @@
 -- What a host holds from its barriers on, against all that it ever held.
-use Rattle.std.proofs.Common.{◌≡◌, ◌⊎◌, ℕ, ◌≤◌, ◌==◌, ◌&&◌, not, nat_le, Bool, true, false, List, [], ◌∷◌, if◌then◌else◌, Option, None, Some, refl, sym, subst, ap, ◌∙◌, inl, inr}
+use Rattle.std.proofs.Common.{◌≡◌, ◌⊎◌, ℕ, ◌≤◌, ◌==◌, ◌&&◌, not, nat_le, Bool, true, false, List, [], ◌∷◌, if◌then◌else◌, Option, None, Some, refl, sym, subst, ap, ◌∙◌, inl, inr, le-leb}
 use Rattle.std.specs.Prelude.{nat_lt}
 use Rattle.std.specs.Option.{option_or}
 use Rattle.std.proofs.lemmas.Bool.{ltb-false, not_from_false}
@@ -19,13 +19,13 @@ use Rattle.pipe_base.specs.Fate as fates
 use Rattle.pipe_graph.specs.Graph.{Graph, is_host}
 use Rattle.pipe_base.specs.Messages.{IsInOrder, Messages, from_barrier, has_key, without_keys}
 use Rattle.pipe_base.proofs.KeyOrder.{order_filter, order_with}
-use Rattle.pipe_base.proofs.MessageLaws.{from_with, has_from}
+use Rattle.pipe_base.proofs.MessageLaws.{has_from, has_passing, passing-with}
 use Rattle.pipe_model.specs.declared.record.Record.{Record}
 use Rattle.pipe_model.specs.Fate.{fate_for, fate_in, held, with_held}
 use Rattle.pipe_model.specs.Got.{carries, got, gets_of, is_beacon, key_of, message_of}
 use Rattle.pipe_host.specs.declared.buffers.Buffers.{Buffers}
 use Rattle.pipe_reorder.specs.Buffer.{Buffer, has_tombstone}
-use Rattle.pipe_reorder.proofs.VoidLaws.{has_passing, has_standing, passing-with, standing-with}
+use Rattle.pipe_reorder.proofs.VoidLaws.{has_standing, standing-with}
 use Rattle.pipe_host.specs.Buffers.{IsFresh, IsNew, all_burying, buffer_of, fate_among, fate_by, joined}
 use Rattle.pipe_host.specs.Host.{still_held}
 
@@ -109,10 +109,11 @@ keeps_by : (f : Fate) (b : ℕ) (failed : List Announced) (was : Key → Bool) (
     → with_held (Some f) (Some p) (still_held b failed was ms) ≡ still_held b failed was (with_held (Some f) (Some p) ms)
 keeps_by Held b failed was ms p order is =
     let held = is refl in
+    let standing = order_filter (λ m. not (is_void failed m.0)) ms order in
     sym (ap (λ (xs : Messages). from_barrier b (without_keys was xs)) (standing-with failed (key_of p) p.body ms order held.stands)
-    ∙ ap (from_barrier b)
-    (passing-with (λ n. not (was n)) (key_of p) p.body (without_void failed ms) (order_filter (λ m. not (is_void failed m.0)) ms order) (not_from_false (was (key_of p)) held.wanted))
-    ∙ from_with b (key_of p) p.body (without_keys was (without_void failed ms)) held.from)
+    ∙ ap (from_barrier b) (passing-with (λ n. not (was n)) (key_of p) p.body (without_void failed ms) standing (not_from_false (was (key_of p)) held.wanted))
+    ∙ passing-with (λ n. nat_le b n.ts.0) (key_of p) p.body (without_keys was (without_void failed ms)) (order_filter (λ m. not (was m.0)) (without_void failed ms) standing)
+    (le-leb b p.ts.0 held.from))
 keeps_by Repeat b failed was ms p order is = refl
 keeps_by (Late c) b failed was ms p order is = refl
 keeps_by (Discarded t) b failed was ms p order is = refl

@@ -52,7 +52,7 @@ use Rattle.pipe_model.specs.Marks.{told_drops, told_hosts}
 use Rattle.pipe_model.specs.Moments.{known_drops, moments_of, noted_hosts, quiet_calls, received}
 use Rattle.pipe_model.specs.Recalls.{is_recall}
 use Rattle.pipe_model.specs.Run.{IsNodeStep}
-use Rattle.pipe_model.specs.Sender.{is_ack, is_recall_ack, sender_calls, with_answer, with_begun}
+use Rattle.pipe_model.specs.Sender.{accepted_stamp, is_ack, is_recall_ack, sender_calls, with_answer, with_begun}
 use Rattle.pipe_model.proofs.Promises.{noted_is}
 use Rattle.pipe_model.proofs.Steps.{taken_ignored, taken_received}
 use Rattle.pipe_relsend.specs.Sending as sending
@@ -435,7 +435,7 @@ more_announced host (a ∷ old) new is = more_by (a.host.0 == host) (is_announce
 
 -- Whoever was noted before is noted now. The calls before are those of the same record without news.
 pub knows_all : (graph : Graph) (node : ℕ) (own : List Record) (r : Record)
-    → sending.KnowsAll (noted_hosts (r ∷ own)) (with_answer (gets graph node own r) (with_begun r.event r.step.stamped (sender_calls graph node own)))
+    → sending.KnowsAll (noted_hosts (r ∷ own)) (with_answer (gets graph node own r) (with_begun r.event (accepted_stamp r.step) (sender_calls graph node own)))
 knows_all graph node own r host is =
     let same : Record = record r { step = record r.step { noted = [] } } in
     more_announced host (noted_hosts own) r.step.noted

@@ -17,7 +17,7 @@ use Rattle.pipe_base.specs.Failed.{is_void, without_void}
 use Rattle.pipe_graph.specs.Graph.{Graph, ins_of, is_host}
 use Rattle.pipe_base.specs.Messages.{Messages, from_barrier, logged_of, below_barrier, without_keys}
 use Rattle.pipe_base.specs.Moment.{Moment}
-use Rattle.pipe_base.proofs.MessageLaws.{from_later, none_between}
+use Rattle.pipe_base.proofs.MessageLaws.{filter_swap, from_later, none_between}
 use Rattle.pipe_barrier.specs.declared.registers.Barriers.{Barriers}
 use Rattle.pipe_barrier.specs.Registers.{AreBarriers}
 use Rattle.pipe_links.specs.Links.{AreBarriersAt}
@@ -34,7 +34,7 @@ use Rattle.pipe_model.specs.Recalls.{is_recall}
 use Rattle.pipe_model.proofs.Rising.{barrier_rises}
 use Rattle.pipe_model.proofs.Steps.{received_packet}
 use Rattle.pipe_reorder.specs.Buffer.{Buffer, has_tombstone, keys_from, left_by, passed_by, with_no_buried, with_no_void}
-use Rattle.pipe_reorder.proofs.VoidLaws.{Covers, covers_more, filter_swap, without_more}
+use Rattle.pipe_reorder.proofs.VoidLaws.{Covers, covers_more, without_more}
 use Rattle.pipe_host.specs.declared.buffers.Buffers.{Buffers}
 use Rattle.pipe_host.specs.Buffers.{IsFresh, all_burying, all_joined, all_left, all_noting, burying, fate_among, fate_by, logged_by, newest_after, stones_with, where_mine}
 use Rattle.pipe_host.specs.Host.{buffer_for, buffer_with, buffers_for, buffers_with, still_held, newest_during, stones, stones_during, stones_for}

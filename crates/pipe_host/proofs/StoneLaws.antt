@@ -16,8 +16,8 @@ use Rattle.pipe_model.specs.Moments.{barrier_at}
 use Rattle.pipe_model.specs.Recalls.{got_recall, is_recall, takes_back}
 use Rattle.pipe_model.proofs.Rising.{barrier_rises}
 use Rattle.pipe_reorder.specs.Buffer.{Buffer, has_tombstone, is_buried_by, newest_with, with_tombstone, with_unburied, without_newest}
+use Rattle.pipe_base.proofs.MessageLaws.{same_from_key}
 use Rattle.pipe_reorder.proofs.TombstoneLaws.{has-from, has-put, there_by, unburied}
-use Rattle.pipe_reorder.proofs.VoidLaws.{same_from_key}
 use Rattle.pipe_host.specs.Buffers.{burying, newest_after, stones_with}
 use Rattle.pipe_host.specs.Host.{stones, stones_during, stones_for}
 use Rattle.pipe_host.proofs.HeldLaws.{Agree}
@@ -98,15 +98,7 @@ same_tests p q r s each xs = fused p q xs ∙ filter_agree (λ y. q y && p y) (�
 -- ---- what is taken back goes
 
 passes_by : (was now stone from : Bool) → (was ≡ true → now ≡ true) → (from ≡ true → stone ≡ now) → ((not was && from) && not stone) ≡ (not now && from)
-passes_by true true stone from stays same = refl
-passes_by true false stone from stays same = let is : false ≡ true = stays refl in cc
-passes_by false true stone false stays same = refl
-passes_by false false stone false stays same = refl
-passes_by false now stone true stays same = rw (same refl) (and_true now)
-  where
-    and_true : (now : Bool) → not now ≡ (not now && true)
-    and_true true = refl
-    and_true false = refl
+passes_by was now stone from stays same = grind (arith, nat_tests, stays, same)
 
 -- from a barrier on, where the tombstones are those of what is taken back by now
 pub without_stones : (b : ℕ) (stone was now : Key → Bool) (ms : Messages) → Agree b stone now → ((k : Key) → was k ≡ true → now k ≡ true)
@@ -116,26 +108,14 @@ without_stones b stone was now ms agree stays =
     ∙ same_tests (λ m. not (stone m.0)) (λ m. not (was m.0) && nat_le b m.0.ts.0) (λ m. nat_le b m.0.ts.0) (λ m. not (now m.0))
     (λ m. passes_by (was m.0) (now m.0) (stone m.0) (nat_le b m.0.ts.0) (stays m.0) (λ from. agree m.0 (leb-true b m.0.ts.0 from))) ms
 
-same_number : (x y : ℕ) → (x == y) ≡ (y == x)
-same_number x y = grind (arith, nat_tests)
-
 same_key-sym : (a b : Key) → same_key a b ≡ same_key b a
-same_key-sym a b = ap₂ (λ (t u : Bool). t && u) (same_number a.ts.0 b.ts.0) (same_number a.src.0 b.src.0)
+same_key-sym a b = grind (arith, nat_tests)
 
 taken_by : (was same from : Bool) → ((not was && from) && not same) ≡ (not (same || was) && from)
-taken_by true true from = refl
-taken_by true false from = refl
-taken_by false true true = refl
-taken_by false true false = refl
-taken_by false false true = refl
-taken_by false false false = refl
+taken_by was same from = grind (arith, nat_tests)
 
 gone_by : (was same from : Bool) → (same ≡ true → from ≡ true → was ≡ true) → (not was && from) ≡ (not (same || was) && from)
-gone_by true true from gone = refl
-gone_by true false from gone = refl
-gone_by false true true gone = let is : false ≡ true = gone refl refl in cc
-gone_by false true false gone = refl
-gone_by false false from gone = refl
+gone_by was same from gone = grind (arith, nat_tests, gone)
 
 buried_by : (t : Bool) (b c : ℕ) (k : Key) (ks : List Key) (was : Key → Bool) (ms : Messages) → b ≤ c → Agree b (has_tombstone ks) was → is_buried_by b ks k ≡ t
     → without_newest (if t then Some k else None) (from_barrier c (without_keys was ms)) ≡ from_barrier c (without_keys (λ q. same_key k q || was q) ms)

@@ -5,6 +5,7 @@
 mod buffers;
 mod fates;
 mod host;
+mod laws;
 mod obeying;
 mod records;
 mod sending;
@@ -13,3 +14,4 @@ mod ticking;
 mod times;
 
 pub use host::Host;
+pub use laws::logs_of_any_calls_are_ordered;

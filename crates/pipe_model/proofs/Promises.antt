@@ -11,6 +11,8 @@ use Rattle.pipe_base.specs.declared.name.Ts.{Ts}
 use Rattle.pipe_base.specs.declared.packet.Packet.{Packet}
 use Rattle.pipe_base.specs.declared.packet.Plane.{Plane}
 use Rattle.pipe_base.specs.declared.packet.Plane.TheVariants as planes
+use Rattle.pipe_base.specs.declared.step.Outcome.{Outcome}
+use Rattle.pipe_base.specs.declared.step.Outcome.TheVariants.{Ok}
 use Rattle.pipe_base.specs.Clock.{after_stamp}
 use Rattle.pipe_base.specs.Failed.{is_announced}
 use Rattle.pipe_graph.specs.Graph.{Graph, is_host}
@@ -25,7 +27,7 @@ use Rattle.pipe_model.specs.Got.{gets}
 use Rattle.pipe_model.specs.Moments.{barrier_at, noted_hosts}
 use Rattle.pipe_model.specs.NodePromise.{host_promise, node_promise}
 use Rattle.pipe_model.specs.Run.{IsNodeHistory, IsNodeStep}
-use Rattle.pipe_model.specs.Sender.{is_ack, is_recall_ack, sender_calls, with_answer, with_begun, with_noted}
+use Rattle.pipe_model.specs.Sender.{accepted_stamp, is_ack, is_recall_ack, sender_calls, where_accepted, with_answer, with_begun, with_noted}
 use Rattle.pipe_model.proofs.Rising.{barrier_rises}
 use Rattle.pipe_model.proofs.Stamps.{stamp_above}
 
@@ -72,14 +74,19 @@ with_begun_by : (P : List SenderCall → Type 0) (event : Event) (stamp : Option
 with_begun_by P (Send host Reliable now dests) (Some ts) past same more = more host now ts dests refl refl
 with_begun_by P _ _ past same more = same
 
+was_stamped : (outcome : Outcome) (stamp : Option Ts) (ts : Ts) → where_accepted outcome stamp ≡ Some ts → stamp ≡ Some ts
+was_stamped Ok stamp ts is = is
+was_stamped _ stamp ts is = cc
+
 -- where a scattering that is begun keeps the property, and so do all other calls, a record does
 pub calls_after : (P : List SenderCall → Type 0) (graph : Graph) (node : ℕ) (own : List Record) (r : Record) → WhereBegun P r.event r.step.stamped (sender_calls graph node own)
     → WhereNoneBegun P → P (sender_calls graph node own) → P (sender_calls graph node (r ∷ own))
 calls_after P graph node own r begins others before =
-    let first : List SenderCall = with_begun r.event r.step.stamped (sender_calls graph node own) in
+    let first : List SenderCall = with_begun r.event (accepted_stamp r.step) (sender_calls graph node own) in
     let answers : List SenderCall = with_answer (gets graph node own r) first in
     with_noted_by P (noted_hosts (r ∷ own)) r.step.noted answers others
-    (with_answer_by P (gets graph node own r) first others (with_begun_by P r.event r.step.stamped (sender_calls graph node own) before begins))
+    (with_answer_by P (gets graph node own r) first others (with_begun_by P r.event (accepted_stamp r.step) (sender_calls graph node own) before
+    (λ host now ts dests event stamp. begins host now ts dests event (was_stamped r.step.outcome r.step.stamped ts stamp))))
 
 -- a property of the scatterings that were begun asks nothing of other calls
 pub begun_after : (P : List Scattering → Type 0) (graph : Graph) (node : ℕ) (own : List Record) (r : Record)
@@ -118,9 +125,9 @@ noted_both host old (a ∷ more) past before =
 pub noted_is : (graph : Graph) (node : ℕ) (own : List Record) (host : ℕ) → is_noted (sender_calls graph node own) host ≡ is_announced host (noted_hosts own)
 noted_is graph node [] host = refl
 noted_is graph node (r ∷ own) host =
-    let first : List SenderCall = with_begun r.event r.step.stamped (sender_calls graph node own) in
+    let first : List SenderCall = with_begun r.event (accepted_stamp r.step) (sender_calls graph node own) in
     noted_both host (noted_hosts own) r.step.noted (with_answer (gets graph node own r) first)
-    (answer_notes (gets graph node own r) first host ∙ begun_notes r.event r.step.stamped (sender_calls graph node own) host ∙ noted_is graph node own host)
+    (answer_notes (gets graph node own r) first host ∙ begun_notes r.event (accepted_stamp r.step) (sender_calls graph node own) host ∙ noted_is graph node own host)
 
 -- ---- scatterings and their timestamps
 

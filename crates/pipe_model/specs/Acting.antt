@@ -4,11 +4,11 @@ use Rattle.pipe_base.specs.declared.control.To.{To}
 use Rattle.pipe_base.specs.declared.control.To.TheVariants.{Node}
 use Rattle.pipe_base.specs.declared.name.NodeId.{NodeId}
 use Rattle.pipe_base.specs.declared.step.Outcome.{Outcome}
-use Rattle.pipe_base.specs.declared.step.Outcome.TheVariants.{Crashed, NoItem}
+use Rattle.pipe_base.specs.declared.step.Outcome.TheVariants.{Ok, DestFailed, Window, ClockEnd, Crashed, NoItem, Ignored}
 use Rattle.pipe_graph.specs.Graph.{Graph, head_of, ins_of}
 use Rattle.pipe_base.specs.Moment.{has_link}
 use Rattle.pipe_model.specs.declared.event.Event.{Event}
-use Rattle.pipe_model.specs.declared.event.Event.TheVariants.{Send, Tick, Take, ControlTake, Crash}
+use Rattle.pipe_model.specs.declared.event.Event.TheVariants.{Send, Tick, Take, Lose, ControlTake, ControlLose, Decide, Crash, Cut}
 use Rattle.pipe_model.specs.declared.record.Record.{Record}
 use Rattle.pipe_model.specs.declared.record.Took.{Took}
 use Rattle.pipe_model.specs.declared.record.Took.TheVariants.{Message}
@@ -29,7 +29,10 @@ acts graph node (Tick n now) took = n.0 == node
 acts graph node (Take link place keep) took = head_of graph link.0 == node
 acts graph node (ControlTake place keep) took = reached node took
 acts graph node (Crash n) took = n.0 == node
-acts graph node _ took = false
+acts graph node (Lose link place) took = false
+acts graph node (ControlLose place) took = false
+acts graph node Decide took = false
+acts graph node (Cut link) took = false
 
 -- a node acts, and it is this one
 abbrev pub is_node : Option NodeId → ℕ → Bool
@@ -45,7 +48,11 @@ ComesIn graph node _ = Unit {0}
 abbrev pub is_idle : Outcome → Bool
 is_idle Crashed = true
 is_idle NoItem = true
-is_idle _ = false
+is_idle Ok = false
+is_idle (DestFailed host) = false
+is_idle (Window count) = false
+is_idle (ClockEnd next) = false
+is_idle Ignored = false
 
 -- the record is one of this node's own
 abbrev pub is_own : Graph → ℕ → Record → Bool

@@ -11,10 +11,10 @@ use Rattle.pipe_base.specs.declared.step.Step.{Step}
 use Rattle.pipe_graph.specs.Graph.{Graph}
 use Rattle.pipe_base.specs.Step.{quiet_step}
 use Rattle.pipe_model.specs.declared.event.Event.{Event}
-use Rattle.pipe_model.specs.declared.event.Event.TheVariants.{ControlTake, Decide}
+use Rattle.pipe_model.specs.declared.event.Event.TheVariants.{Send, Tick, Take, Lose, ControlTake, ControlLose, Decide, Crash, Cut}
 use Rattle.pipe_model.specs.declared.record.Record.{Record}
 use Rattle.pipe_model.specs.declared.record.Took.{Took}
-use Rattle.pipe_model.specs.declared.record.Took.TheVariants.{Message}
+use Rattle.pipe_model.specs.declared.record.Took.TheVariants.{Link, Message, Nothing}
 use Rattle.pipe_model.specs.Decision.{after_announce, after_decision, after_doom, messages, newly_announced, newly_dead}
 use Rattle.pipe_model.specs.View.{View, after_message, first_view}
 
@@ -23,11 +23,22 @@ abbrev pub after_addressed : Graph → To → Control → View → View
 after_addressed graph Controller control v = after_message graph control v
 after_addressed graph _ control v = v
 
+abbrev pub after_took : Graph → Took → View → View
+after_took graph (Message a) v = after_addressed graph a.to a.control v
+after_took graph (Link link p) v = v
+after_took graph Nothing v = v
+
 -- what the controller knows after an event: it takes what is addressed to it, and decides
 abbrev pub after_event : Graph → Event → Took → Outcome → View → View
-after_event graph (ControlTake place keep) (Message a) outcome v = after_addressed graph a.to a.control v
+after_event graph (ControlTake place keep) took outcome v = after_took graph took v
 after_event graph Decide took outcome v = after_decision graph v
-after_event graph _ took outcome v = v
+after_event graph (Send host service now dests) took outcome v = v
+after_event graph (Tick node now) took outcome v = v
+after_event graph (Take link place keep) took outcome v = v
+after_event graph (Lose link place) took outcome v = v
+after_event graph (ControlLose place) took outcome v = v
+after_event graph (Crash node) took outcome v = v
+after_event graph (Cut link) took outcome v = v
 
 -- What the controller knows after a history.
 abbrev pub view : Graph → List Record → View
@@ -45,7 +56,14 @@ decision graph v = record (quiet_step Ok) {
 -- the step of a record that is no node's own: a decision, or nothing but an outcome
 abbrev pub nobodys_step : Graph → View → Event → Outcome → Step
 nobodys_step graph v Decide outcome = decision graph v
-nobodys_step graph v _ outcome = quiet_step outcome
+nobodys_step graph v (Send host service now dests) outcome = quiet_step outcome
+nobodys_step graph v (Tick node now) outcome = quiet_step outcome
+nobodys_step graph v (Take link place keep) outcome = quiet_step outcome
+nobodys_step graph v (Lose link place) outcome = quiet_step outcome
+nobodys_step graph v (ControlTake place keep) outcome = quiet_step outcome
+nobodys_step graph v (ControlLose place) outcome = quiet_step outcome
+nobodys_step graph v (Crash node) outcome = quiet_step outcome
+nobodys_step graph v (Cut link) outcome = quiet_step outcome
 
 -- the host takes part
 abbrev pub is_member : Graph → List Record → ℕ → Bool

@@ -4,7 +4,7 @@ use Rattle.pipe_base.specs.declared.name.HostId.{HostId}
 use Rattle.pipe_graph.specs.Graph.{Graph}
 use Rattle.pipe_base.specs.Limits.{most_receivers}
 use Rattle.pipe_model.specs.declared.event.Event.{Event}
-use Rattle.pipe_model.specs.declared.event.Event.TheVariants.{Send, Tick, Take, Lose, Crash, Cut}
+use Rattle.pipe_model.specs.declared.event.Event.TheVariants.{Send, Tick, Take, Lose, ControlTake, ControlLose, Decide, Crash, Cut}
 
 -- one to sixteen receivers, all different and all hosts
 pub record AreReceivers (graph : Graph) (dests : List (HostId × List ℕ)) : Type 0 where
@@ -27,4 +27,6 @@ IsOfGraph graph (Take link place keep) = link.0 < length graph.links
 IsOfGraph graph (Lose link place) = link.0 < length graph.links
 IsOfGraph graph (Crash node) = node.0 < graph.nodes
 IsOfGraph graph (Cut link) = link.0 < length graph.links
-IsOfGraph graph _ = Unit {0}
+IsOfGraph graph (ControlTake place keep) = Unit {0}
+IsOfGraph graph (ControlLose place) = Unit {0}
+IsOfGraph graph Decide = Unit {0}

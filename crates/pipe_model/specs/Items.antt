@@ -4,7 +4,8 @@ use Rattle.pipe_graph.specs.Graph.{Graph}
 use Rattle.pipe_base.specs.Limits.{most_items}
 use Rattle.pipe_model.specs.declared.event.Event.{Event}
 use Rattle.pipe_model.specs.declared.record.Record.{Record}
-use Rattle.pipe_model.specs.Run.{IsHistory, IsStep}
+use Rattle.pipe_model.specs.OneRun.{record_after}
+use Rattle.pipe_model.specs.Run.{IsHistory}
 
 -- the packets and control messages that a record puts
 abbrev pub items_in : Record → ℕ
@@ -23,7 +24,4 @@ pub record IsOver (trace : List Record) (r : Record) (items : ℕ) : Type 0 wher
 -- After the trace of a run so far this event would put too much, by the record that the rules give it.
 pub record Overfills (graph : Graph) (trace : List Record) (event : Event) (items : ℕ) : Type 0 where
   pub past : IsHistory graph (reverse trace)
-  pub next : Record
-  pub event_is : next.event ≡ event
-  pub rules : IsStep graph (reverse trace) next
-  pub over : IsOver trace next items
+  pub over : IsOver trace (record_after graph (reverse trace) event) items

@@ -21,7 +21,9 @@ pub mod NeverLate
 pub mod NodePromise
 pub mod OnLink
 pub mod OnTime
+pub mod OneRun
 pub mod Order
+pub mod OrderedRun
 pub mod Outcome
 pub mod OwnOutcome
 pub mod Packets

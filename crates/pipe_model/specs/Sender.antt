@@ -3,6 +3,9 @@ use Rattle.std.specs.Prelude.{ℕ, if◌then◌else◌, Bool, true, false, List,
 use Rattle.pipe_base.specs.declared.control.Announced.{Announced}
 use Rattle.pipe_base.specs.declared.message.Service.TheVariants.{Reliable}
 use Rattle.pipe_base.specs.declared.name.Ts.{Ts}
+use Rattle.pipe_base.specs.declared.step.Outcome.{Outcome}
+use Rattle.pipe_base.specs.declared.step.Outcome.TheVariants.{Ok, DestFailed, Window, ClockEnd, Crashed, NoItem, Ignored}
+use Rattle.pipe_base.specs.declared.step.Step.{Step}
 use Rattle.pipe_base.specs.declared.packet.Packet.{Packet}
 use Rattle.pipe_base.specs.declared.packet.PacketKind.{PacketKind}
 use Rattle.pipe_base.specs.declared.packet.PacketKind.TheVariants.{Ack, RecallAck}
@@ -13,6 +16,20 @@ use Rattle.pipe_model.specs.declared.event.Event.TheVariants.{Send}
 use Rattle.pipe_model.specs.declared.record.Record.{Record}
 use Rattle.pipe_model.specs.Got.{gets}
 use Rattle.pipe_model.specs.Moments.{noted_hosts}
+
+-- what was stamped in a step with this outcome, where that is ok
+abbrev pub where_accepted : Outcome → Option Ts → Option Ts
+where_accepted Ok stamp = stamp
+where_accepted (DestFailed host) stamp = None
+where_accepted (Window count) stamp = None
+where_accepted (ClockEnd next) stamp = None
+where_accepted Crashed stamp = None
+where_accepted NoItem stamp = None
+where_accepted Ignored stamp = None
+
+-- the stamp of a step that was not refused
+abbrev pub accepted_stamp : Step → Option Ts
+accepted_stamp step = where_accepted step.outcome step.stamped
 
 -- a reliable send that was stamped begins a scattering with this stamp and its receivers
 abbrev pub with_begun : Event → Option Ts → List SenderCall → List SenderCall
@@ -42,4 +59,4 @@ with_noted noted (_ ∷ _) past = Noted noted ∷ past
 abbrev pub sender_calls : Graph → ℕ → List Record → List SenderCall
 sender_calls graph node [] = []
 sender_calls graph node (r ∷ own) =
-    with_noted (noted_hosts (r ∷ own)) r.step.noted (with_answer (gets graph node own r) (with_begun r.event r.step.stamped (sender_calls graph node own)))
+    with_noted (noted_hosts (r ∷ own)) r.step.noted (with_answer (gets graph node own r) (with_begun r.event (accepted_stamp r.step) (sender_calls graph node own)))

@@ -7,7 +7,7 @@ use Rattle.pipe_base.specs.declared.control.Announced.{Announced}
 use Rattle.pipe_base.specs.declared.message.Entry.{Entry}
 use Rattle.pipe_base.specs.declared.message.Key.{Key}
 use Rattle.pipe_base.specs.declared.message.Service.TheVariants.{Reliable}
-use Rattle.pipe_base.specs.Failed.{is_void}
+use Rattle.pipe_base.specs.Failed.{is_announced, is_void}
 use Rattle.pipe_graph.specs.Graph.{Graph}
 use Rattle.pipe_base.specs.Messages.{same_key}
 use Rattle.pipe_base.specs.Scattering.{Scattering, SenderCall}
@@ -32,16 +32,16 @@ use Rattle.pipe_model_atomic.specs.Sentences.{Sentences}
 use Rattle.pipe_model_atomic.proofs.Bounds.{commit_of}
 use Rattle.pipe_model_atomic.proofs.Holds.{sentences_hold}
 use Rattle.pipe_model_atomic.proofs.Passing.{begun_by, not_passed}
+use Rattle.pipe_model_atomic.proofs.Recorded.{trusted_is}
 use Rattle.pipe_model_atomic.proofs.Stages.{not_taken_back, settled_answered, settled_prepared}
 use Rattle.pipe_model_atomic.proofs.Times.{announced_before, not_void_first}
 use Rattle.pipe_model.proofs.Void.{same_void}
 
 -- a correct host is present
-correct_present : (graph : Graph) (past : List Record) (host : ℕ) → Sentences graph past → IsCorrect graph past host → IsPresent graph past host
-correct_present graph past host holds correct = record {
-  member = holds.bounding.present_are_members host correct.host_in correct.trusted;
-  trusted = correct.trusted;
-}
+correct_present : (graph : Graph) (past : List Record) (host : ℕ) → IsHistory graph past → Sentences graph past → IsCorrect graph past host → IsPresent graph past host
+correct_present graph past host run holds correct =
+    let trusted : is_announced host (announced graph past) ≡ false = trusted_is graph past host run correct in
+    record { member = holds.bounding.present_are_members host correct.host_in trusted; trusted = trusted }
 
 -- ---- what is settled
 
@@ -68,9 +68,9 @@ recalled_by_none graph past run holds sender k s sender_in lt valid settled reca
     inr (λ j d at correct.
     let host : ℕ = (get_or x.dests j d).0.0 in
     let unnoted : is_noted calls host ≡ false =
-    noted_is graph sender o host ∙ announced_before host (noted_hosts o) (announced graph past) (holds.knowing.noted_first sender) correct.trusted in
+    noted_is graph sender o host ∙ announced_before host (noted_hosts o) (announced graph past) (holds.knowing.noted_first sender) (trusted_is graph past host run correct) in
     not_logged graph host (own graph host past) (key_from sender x) (node_history graph host past run)
-    (holds.recalls_in_time sender sender_in k s lt valid j d at (settled_answered calls x settled recalled j d at unnoted) correct.host_in correct.trusted))
+    (holds.recalls_in_time sender sender_in k s lt valid j d at (settled_answered calls x settled recalled j d at unnoted) correct.host_in (trusted_is graph past host run correct)))
 
 -- ---- what is void
 
@@ -86,13 +86,13 @@ none_has failed key (e ∷ es) void all =
         absurd (true≢false (sym void ∙ sym (same_void failed e.key key same) ∙ All-head (λ (x : Entry). is_void failed x.key ≡ false) e es all))
     by false other rest = rest
 
-void_by_none : (graph : Graph) (past : List Record) → Sentences graph past → (sender : ℕ) (s : Scattering) → is_void (announced graph past) (key_from sender s) ≡ true
+void_by_none : (graph : Graph) (past : List Record) → IsHistory graph past → Sentences graph past → (sender : ℕ) (s : Scattering) → is_void (announced graph past) (key_from sender s) ≡ true
     → IsInAllOrNone graph past s (key_from sender s)
-void_by_none graph past holds sender s void =
+void_by_none graph past run holds sender s void =
     inr (λ j d lt correct.
     let host : ℕ = (get_or s.dests j d).0.0 in
     none_has (announced graph past) (key_from sender s) (log Reliable (own graph host past)) void
-    (holds.none_void_logged host (correct_present graph past host holds correct)))
+    (holds.none_void_logged host (correct_present graph past host run holds correct)))
 
 -- ---- each scattering
 
@@ -104,7 +104,7 @@ by_stage : (graph : Graph) (past : List Record) → IsHistory graph past → Sen
     → IsPassed graph past (get_or (begun_by graph past sender) k s)
     → IsInAllOrNone graph past (get_or (begun_by graph past sender) k s) (key_from sender (get_or (begun_by graph past sender) k s))
 by_stage graph past run holds sender k s true settled recalled sender_in lt void is back passed =
-    void_by_none graph past holds sender (get_or (begun_by graph past sender) k s) void
+    void_by_none graph past run holds sender (get_or (begun_by graph past sender) k s) void
 by_stage graph past run holds sender k s false true true sender_in lt valid is back passed = recalled_by_none graph past run holds sender k s sender_in lt valid is back
 by_stage graph past run holds sender k s false true false sender_in lt valid is kept passed =
     let x : Scattering = get_or (begun_by graph past sender) k s in
@@ -115,7 +115,7 @@ by_stage graph past run holds sender k s false false recalled sender_in lt valid
     inl (λ j d at correct.
     let host : ℕ = (get_or (get_or (begun_by graph past sender) k s).dests j d).0.0 in
     let low : commit_of graph past host ≤ (get_or (begun_by graph past sender) k s).ts.0 =
-    not_passed graph past holds.bounding holds.times_promised sender host sender_in (correct_present graph past host holds correct) k s lt valid is in
+    not_passed graph past holds.bounding holds.times_promised sender host sender_in (correct_present graph past host run holds correct) k s lt valid is in
     absurd (omega (arith, low, passed j d at correct)))
 
 pub all_or_none : (graph : Graph) (past : List Record) → JoinsAllHosts graph → IsHistory graph past → IsAllOrNone graph past

@@ -1,6 +1,6 @@
 -- What a host promises bounds the commit barriers of all that it reaches, and so does each report on the way.
 use Rattle.std.proofs.Common.{◌≡◌, ◌⊎◌, ℕ, ◌<◌, ◌≤◌, ◌&&◌, not, nat_le, Bool, true, false, List, [], ◌∷◌, ◌++◌, length, Option, None, Some, refl, inl, inr, sym, subst, ap, ◌∙◌, arith, le_trans, true≢false}
-use Rattle.std.proofs.lemmas.Bool.{cases_lt}
+use Rattle.std.proofs.lemmas.Bool.{and_from, cases_lt}
 use Rattle.std.proofs.lemmas.Bool.Decides.{nat_tests}
 use Rattle.std.proofs.lemmas.List.Elements.{All-weaker}
 use Rattle.pipe_base.specs.declared.name.Ts.{Ts}
@@ -14,7 +14,6 @@ use Rattle.pipe_base.specs.Settled.{unsettled}
 use Rattle.pipe_base.proofs.BarrierLaws.{barrier-le_register}
 use Rattle.pipe_graph.proofs.PathLaws.{path_carries, path_split}
 use Rattle.pipe_graph.proofs.Rounds.{has_path}
-use Rattle.pipe_graph.proofs.Tests.{and_both}
 use Rattle.pipe_model.specs.declared.record.Record.{Record}
 use Rattle.pipe_model.specs.Acting.{own}
 use Rattle.pipe_model.specs.Clock.{promise}
@@ -111,10 +110,10 @@ report_bounds graph past run holds start end link value before after path is =
 
 -- a link that counts is open, or reported of at most the time
 open_by : (o : Option Ts) (live : Bool) (time : Ts) → live ≡ true → ((live && not (is_within time o)) ≡ true) ⊎ ((value : Ts) × (o ≡ Some value) × (value.0 ≤ time.0))
-open_by None live time is = inl (and_both live true is refl)
+open_by None live time is = inl (and_from live true is refl)
 open_by (Some value) live time is =
     elim (cases_lt time.0 value.0) [
-      | inl above ↦ let late : nat_le value.0 time.0 ≡ false = grind (arith, nat_tests, above) in inl (and_both live (not (nat_le value.0 time.0)) is (ap not late))
+      | inl above ↦ let late : nat_le value.0 time.0 ≡ false = grind (arith, nat_tests, above) in inl (and_from live (not (nat_le value.0 time.0)) is (ap not late))
       | inr within ↦ inr (value, refl, within)
     ]
 

@@ -2,7 +2,7 @@
 -- reports stay until links are dropped, and then all that stay have noted all that were announced.
 use Rattle.std.proofs.Common.{◌≡◌, ◌⊎◌, ℕ, ◌<◌, ◌≤◌, ◌==◌, ◌&&◌, ◌||◌, not, nat_le, if◌then◌else◌, Bool, true, false, List, ◌∷◌, ◌++◌, length, Option, None, Some, refl, inl, inr, sym, subst, ap, ◌∙◌, eqb-true, true≢false, arith}
 use Rattle.std.specs.Prelude.{is_some}
-use Rattle.std.proofs.lemmas.Bool.{and_parts, or_cases}
+use Rattle.std.proofs.lemmas.Bool.{and_from, and_parts, false_from_ne_true, not-true, or_cases, or_parts}
 use Rattle.std.proofs.lemmas.Bool.Decides.{nat_tests}
 use Rattle.std.proofs.lemmas.List.Folds.{list_any-append}
 use Rattle.pipe_base.specs.declared.control.Announced.{Announced}
@@ -13,7 +13,6 @@ use Rattle.pipe_graph.specs.Graph.{Graph}
 use Rattle.pipe_graph.specs.Reach.{reaches}
 use Rattle.pipe_failtime.proofs.CutLaws.{cut_reaches_none}
 use Rattle.pipe_failtime.proofs.TimeLaws.{time_in_words}
-use Rattle.pipe_graph.proofs.Tests.{and_both, not_from, not_is}
 use Rattle.pipe_model.specs.declared.record.Record.{Record}
 use Rattle.pipe_model.specs.Acting.{own}
 use Rattle.pipe_model.specs.Controller.{announced, view}
@@ -72,7 +71,7 @@ going_intact graph v host time going link known is_open_link fed =
 going_cut : (graph : Graph) (v : View) (host other : ℕ) (time : Ts) → IsGoing graph v host time → other < graph.hosts → is_kept v other ≡ true
     → reaches graph (is_open v time) host other ≡ false
 going_cut graph v host other time going other_in kept =
-    not_from (reaches graph (is_open v time) host other)
+    false_from_ne_true (reaches graph (is_open v time) host other)
     (λ reached. true≢false (sym (reaches_fed graph (is_open v time) v.live (intact v) host other
     (λ link known is. (and_parts (v.live link) (not (is_within time (v.reports link))) is).0)
     (going_intact graph v host time going) reached)
@@ -82,20 +81,16 @@ going_cut graph v host other time going other_in kept =
 kept_by : (doomed : Bool) (graph : Graph) (v : View) (host other : ℕ) (time : Ts) → v.doomed other ≡ doomed → time_of host (newly_announced graph v) ≡ Some time
     → other < graph.hosts → v.members other ≡ true → is_announced other v.announced ≡ false → is_announced other (newly_announced graph v) ≡ false → is_kept v other ≡ true
 kept_by true graph v host other time gone some other_in member old new =
-    let due : is_due v other ≡ true = and_both (v.doomed other) (not (is_announced other v.announced)) gone (ap not old) in
+    let due : is_due v other ≡ true = and_from (v.doomed other) (not (is_announced other v.announced)) gone (ap not old) in
     absurd (true≢false (sym (all_due_going graph v host other time some other_in due) ∙ new))
-kept_by false graph v host other time stays some other_in member old new = and_both (v.members other) (not (v.doomed other)) member (ap not stays)
-
-both_false : (a b : Bool) → (a || b) ≡ false → (a ≡ false) × (b ≡ false)
-both_false true b is = absurd (true≢false is)
-both_false false b is = (refl, is)
+kept_by false graph v host other time stays some other_in member old new = and_from (v.members other) (not (v.doomed other)) member (ap not stays)
 
 newly_cut : (graph : Graph) (v : View) (host other : ℕ) (time : Ts) → is_announced host v.announced ≡ false → other < graph.hosts → v.members other ≡ true
     → time_of host (v.announced ++ newly_announced graph v) ≡ Some time → is_announced other (v.announced ++ newly_announced graph v) ≡ false
     → reaches graph (is_open v time) host other ≡ false
 newly_cut graph v host other time wasnt other_in member is trusted =
     let new : time_of host (newly_announced graph v) ≡ Some time = sym (time_after host v.announced (newly_announced graph v) wasnt) ∙ is in
-    let neither = both_false (is_announced other v.announced) (is_announced other (newly_announced graph v))
+    let neither = or_parts (is_announced other v.announced) (is_announced other (newly_announced graph v))
     (sym (list_any-append (λ (a : Announced). a.host.0 == other) v.announced (newly_announced graph v)) ∙ trusted) in
     let going : IsGoing graph v host time = time_gives (IsGoing graph v) host time (newly_announced graph v) (newly_going graph v) new in
     going_cut graph v host other time going other_in (kept_by (v.doomed other) graph v host other time refl new other_in member neither.0 neither.1)
@@ -184,7 +179,7 @@ told_member graph past present host is =
     let w : View = after_doom graph v in
     let at = has_time host (newly_announced graph w) is in
     let going : IsGoing graph w host at.0 = time_gives (IsGoing graph w) host at.0 (newly_announced graph w) (newly_going graph w) at.1 in
-    present host going.host_in (not_is (is_announced host v.announced) (and_parts (w.doomed host) (not (is_announced host v.announced)) going.due).1)
+    present host going.host_in (not-true (is_announced host v.announced) (and_parts (w.doomed host) (not (is_announced host v.announced)) going.due).1)
 
 -- by a view, a host that was announced and takes part no more is noted by another one that does, by a history
 abbrev IsNotedIn : Graph → List Record → ℕ → ℕ → View → Type 0

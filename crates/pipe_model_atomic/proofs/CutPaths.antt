@@ -1,5 +1,6 @@
 -- Being cut off, in words: each path by links that count has a link with a report of at most the time.
 use Rattle.std.proofs.Common.{◌≡◌, ◌⊎◌, ℕ, ◌||◌, not, Bool, true, false, List, [], ◌∷◌, refl, inl, inr, sym, ◌∙◌, true≢false}
+use Rattle.std.proofs.lemmas.Bool.{and_from, and_parts, false_from_ne_true, not-true, not_from_false, or_left, or_right}
 use Rattle.std.specs.List.{list_any}
 use Rattle.pipe_base.specs.declared.name.Ts.{Ts}
 use Rattle.pipe_graph.specs.Graph.{Graph, IsGraph, head_of}
@@ -7,7 +8,6 @@ use Rattle.pipe_graph.specs.Path.{IsPath, Leads, LeavesBy}
 use Rattle.pipe_graph.specs.Reach.{reaches}
 use Rattle.pipe_graph.proofs.PathLaws.{path_more}
 use Rattle.pipe_graph.proofs.Rounds.{has_path, is_reach}
-use Rattle.pipe_graph.proofs.Tests.{and_both, and_parts, not_from, not_gives, not_is, or_left, or_right}
 use Rattle.pipe_model.specs.declared.record.Record.{Record}
 use Rattle.pipe_model.specs.Controller.{is_live, view}
 use Rattle.pipe_model_atomic.specs.NotedOrCutOff.{AreReportedPaths, IsCutOff, is_open, is_within}
@@ -23,7 +23,7 @@ module _ (graph : Graph) (past : List Record) (time : Ts) where
   link_by : (b : Bool) (node l : ℕ) → told l ≡ b → LeavesBy graph (is_live graph past) node l → (told l ≡ true) ⊎ LeavesBy graph open_set node l
   link_by true node l is leaves = inl is
   link_by false node l isnt leaves =
-      inr (record { known = leaves.known; used = and_both (is_live graph past l) (not (told l)) leaves.used (not_gives (told l) isnt); begins = leaves.begins })
+      inr (record { known = leaves.known; used = and_from (is_live graph past l) (not (told l)) leaves.used (not_from_false (told l) isnt); begins = leaves.begins })
 
   leads_by : (node end : ℕ) (ls : List ℕ) → Leads graph (is_live graph past) node end ls → (list_any told ls ≡ true) ⊎ Leads graph open_set node end ls
   leads_by node end [] leads = inr leads
@@ -53,7 +53,7 @@ module _ (graph : Graph) (past : List Record) (time : Ts) where
   neither false t h k = k
 
   untold : (l : ℕ) → open_set l ≡ true → told l ≡ false
-  untold l is = not_is (told l) (and_parts (is_live graph past l) (not (told l)) is).1
+  untold l is = not-true (told l) (and_parts (is_live graph past l) (not (told l)) is).1
 
   leads_untold : (node end : ℕ) (ls : List ℕ) → Leads graph open_set node end ls → list_any told ls ≡ false
   leads_untold node end [] leads = refl
@@ -72,7 +72,7 @@ cut_in_words graph past host other time whole cut path leads =
 
 pub words_cut : (graph : Graph) (past : List Record) (host other : ℕ) (time : Ts) → AreReportedPaths graph past host time other → IsCutOff graph past host time other
 words_cut graph past host other time words =
-    not_from (reaches graph (is_open (view graph past) time) host other) (λ reached.
+    false_from_ne_true (reaches graph (is_open (view graph past) time) host other) (λ reached.
     let way = has_path graph (is_open (view graph past) time) host other reached in
     let by_live = path_more graph (is_open (view graph past) time) (is_live graph past) host other way.0
     (λ l known is. (and_parts (is_live graph past l) (not (is_within time ((view graph past).reports l))) is).0) way.1 in

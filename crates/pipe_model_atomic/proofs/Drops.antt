@@ -2,7 +2,7 @@
 -- commit use at its head.
 use Rattle.std.proofs.Common.{◌≡◌, ℕ, ◌==◌, ◌&&◌, ◌||◌, not, cond, if◌then◌else◌, Bool, true, false, List, [], ◌∷◌, ◌++◌, filter, refl, sym, subst, ap, ◌∙◌, eqb-true, true≢false}
 use Rattle.std.specs.List.{list_any}
-use Rattle.std.proofs.lemmas.Bool.{and_parts}
+use Rattle.std.proofs.lemmas.Bool.{and_parts, not-true, not_from_false}
 use Rattle.std.proofs.lemmas.List.Folds.{list_any-append}
 use Rattle.pipe_base.specs.declared.control.Addressed.{Addressed}
 use Rattle.pipe_base.specs.declared.control.Control.{Control}
@@ -10,7 +10,6 @@ use Rattle.pipe_base.specs.declared.control.Control.TheVariants.{DropLinks}
 use Rattle.pipe_base.specs.declared.name.LinkId.{LinkId}
 use Rattle.pipe_graph.specs.Graph.{Graph, all_links, head_of}
 use Rattle.pipe_graph.specs.Passable.{not_dropped}
-use Rattle.pipe_graph.proofs.Tests.{not_gives, not_is}
 use Rattle.pipe_model.specs.declared.event.Event.{Event}
 use Rattle.pipe_model.specs.declared.event.Event.TheVariants.{ControlTake}
 use Rattle.pipe_model.specs.declared.record.Record.{Record}
@@ -81,7 +80,7 @@ newly_not false graph v link alive = refl
 
 neither : (a b : Bool) → a ≡ false → b ≡ false → not (a || b) ≡ true
 neither true b h k = absurd (true≢false h)
-neither false b h k = not_gives b k
+neither false b h k = not_from_false b k
 
 still_not : (graph : Graph) (v : View) (link : ℕ) → (v.live link ≡ true → not_dropped v.dropped link ≡ true) → (v.live link && not (is_dead graph v link)) ≡ true
     → not_dropped (v.dropped ++ newly_dead graph v) link ≡ true
@@ -89,8 +88,8 @@ still_not graph v link before is =
     let parts = and_parts (v.live link) (not (is_dead graph v link)) is in
     let test : LinkId → Bool = λ l. l.0 == link in
     ap not (list_any-append test v.dropped (newly_dead graph v))
-    ∙ neither (list_any test v.dropped) (list_any test (newly_dead graph v)) (not_is (list_any test v.dropped) (before parts.0))
-    (newly_not (all_over graph v) graph v link (not_is (is_dead graph v link) parts.1))
+    ∙ neither (list_any test v.dropped) (list_any test (newly_dead graph v)) (not-true (list_any test v.dropped) (before parts.0))
+    (newly_not (all_over graph v) graph v link (not-true (is_dead graph v link) parts.1))
 
 pub keeps_live_not_dropped : (graph : Graph) (past : List Record) (r : Record) → AreLiveNotDropped graph past → AreLiveNotDropped graph (r ∷ past)
 keeps_live_not_dropped graph past r before link =

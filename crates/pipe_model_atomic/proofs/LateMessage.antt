@@ -41,10 +41,11 @@ use Rattle.pipe_model_net.proofs.Genuine.{got_sent}
 use Rattle.pipe_model_atomic.specs.Present.{IsPresent}
 use Rattle.pipe_model_atomic.specs.RecalledInTime.{AreAnswersInTime, IsRecalledInTime}
 use Rattle.pipe_model_atomic.specs.Sentences.{Sentences}
+use Rattle.pipe_model_atomic.proofs.Recorded.{trusted_is}
 use Rattle.pipe_model_atomic.proofs.Passing.{begun_by, not_passed}
 use Rattle.pipe_model_atomic.proofs.Bounds.{commit_of, time_bounds}
 use Rattle.pipe_model_atomic.proofs.Holds.{sentences_hold}
-use Rattle.pipe_model_atomic.proofs.SentBegun.{IsBegunFor, sender_in, sent_begun}
+use Rattle.pipe_model_atomic.proofs.SentBegun.{IsBegunFor, ends_in, sent_begun}
 use Rattle.pipe_model_atomic.proofs.Stages.{settled_answered, settled_prepared}
 use Rattle.pipe_model_atomic.proofs.Times.{announced_before, void_gives, void_noted}
 use Rattle.pipe_model_atomic.proofs.Views.{trusted_before}
@@ -179,7 +180,7 @@ late_known_at graph past r host p joined run known step host_in trusted mine bri
     let sent : WasSent Reliable host e past = got_sent Reliable graph past r host (received graph host (own graph host past) r) p run step refl brings in
     late_known_by (is_void (announced graph past) e.key) graph past host e run holds
     (record { member = holds.bounding.present_are_members host host_in trusted; trusted = trusted }) host_in
-    (sender_in graph past host e known sent) refl (sent_begun graph past host e sent) (late_below graph past r host p step mine brings late)
+    (ends_in graph Reliable past host e known sent).0 refl (sent_begun graph past host e sent) (late_below graph past r host p step mine brings late)
 
 -- who is correct at the end was not announced before
 abbrev IsTrustedStill : Graph → List Record → List Record → Type 0
@@ -195,4 +196,4 @@ late_known graph end (r ∷ past) joined run known trusted =
     )
 
 pub none_late : (graph : Graph) (past : List Record) → JoinsAllHosts graph → IsHistory graph past → AreOfGraph graph past → IsNoneLateOfItself graph past
-none_late graph past joined run known = late_known graph past past joined run known (λ host correct. correct.trusted)
+none_late graph past joined run known = late_known graph past past joined run known (λ host correct. trusted_is graph past host run correct)

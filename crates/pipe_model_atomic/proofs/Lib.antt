@@ -9,10 +9,12 @@ pub mod LateMessage
 pub mod Members
 pub mod Noted
 pub mod Once
+pub mod OrderedRun
 pub mod Passing
 pub mod Promised
 pub mod Reaching
 pub mod Recalled
+pub mod Recorded
 pub mod Reports
 pub mod SentBegun
 pub mod Stages

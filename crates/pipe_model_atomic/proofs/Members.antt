@@ -1,6 +1,7 @@
 -- Any two hosts that take part reach each other, and a host that was not announced takes part: where links are dropped, the hosts
 -- that stay are partners by the links without reports, and every host that leaves was announced.
 use Rattle.std.proofs.Common.{◌≡◌, ℕ, ◌<◌, ◌||◌, nat_lt, not, Bool, true, false, List, [], ◌∷◌, length, refl, inl, inr, sym, ◌∙◌, true≢false, arith}
+use Rattle.std.proofs.lemmas.Bool.{and_from, and_parts, false_from_ne_true, lt-ltb, ltb-true, not-true, not_from_false, or_cases}
 use Rattle.std.proofs.lemmas.Bool.Decides.{nat_tests}
 use Rattle.pipe_graph.specs.Doomed.{is_left}
 use Rattle.pipe_base.specs.Failed.{is_announced}
@@ -12,7 +13,6 @@ use Rattle.pipe_graph.specs.Useless.{is_useless}
 use Rattle.pipe_failtime.proofs.RoundLaws.{kept_reach}
 use Rattle.pipe_failtime.proofs.UselessLaws.{useless_in_words}
 use Rattle.pipe_graph.proofs.ReachLaws.{reaches_alike}
-use Rattle.pipe_graph.proofs.Tests.{and_both, and_parts, not_from, not_gives, not_is, or_cases}
 use Rattle.pipe_model.specs.declared.record.Record.{Record}
 use Rattle.pipe_model.specs.Controller.{is_live, view}
 use Rattle.pipe_model.specs.Decision.{after_doom, all_over, is_dead, newly_announced}
@@ -22,19 +22,16 @@ use Rattle.pipe_model_atomic.specs.PresentAreMembers.{ArePresentMembers}
 use Rattle.pipe_model_atomic.proofs.Announcing.{IsOver, over_at}
 use Rattle.pipe_model_atomic.proofs.Reaching.{AreFedIn, reaches_fed}
 use Rattle.pipe_model_atomic.proofs.Times.{announced_before}
-use Rattle.pipe_model_atomic.proofs.Views.{decision_after, dropped_view, host_below, member_in, told_view, untold, view_after}
-
-below_host : (node hosts : ℕ) → node < hosts → nat_lt node hosts ≡ true
-below_host node hosts lt = grind (arith, nat_tests, lt)
+use Rattle.pipe_model_atomic.proofs.Views.{decision_after, dropped_view, member_in, told_view, untold, view_after}
 
 -- at first all hosts take part, and all links of the graph count
 pub joined_first : (graph : Graph) → JoinsAllHosts graph → AreMembersJoined graph []
 joined_first graph joined a b one other =
-    reaches_alike graph (is_live graph []) every_link a b (λ link known. below_host link (length graph.links) known)
-    ∙ joined a b (host_below a graph.hosts one) (host_below b graph.hosts other)
+    reaches_alike graph (is_live graph []) every_link a b (λ link known. lt-ltb link (length graph.links) known)
+    ∙ joined a b (ltb-true a graph.hosts one) (ltb-true b graph.hosts other)
 
 pub present_first : (graph : Graph) → ArePresentMembers graph []
-present_first graph host known present = below_host host graph.hosts known
+present_first graph host known present = lt-ltb host graph.hosts known
 
 -- ---- dropping
 
@@ -44,10 +41,10 @@ fed_alive graph v host host_in kept link known whole fed =
     let parts = and_parts (v.live link) (not (is_reported v.reports link)) whole in
     let useless : Bool = is_useless graph (intact v) (is_kept v) link in
     let dead : Bool = is_dead graph v link in
-    and_both (v.live link) (not dead) parts.0
-    (not_gives dead (not_from dead (λ is.
+    and_from (v.live link) (not dead) parts.0
+    (not_from_false dead (false_from_ne_true dead (λ is.
     elim (or_cases (is_reported v.reports link) useless (and_parts (v.live link) (is_reported v.reports link || useless) is).1) [
-      | inl told ↦ true≢false (sym told ∙ not_is (is_reported v.reports link) parts.1)
+      | inl told ↦ true≢false (sym told ∙ not-true (is_reported v.reports link) parts.1)
       | inr idle ↦ true≢false (sym fed ∙ (useless_in_words graph (intact v) (is_kept v) link idle).unfed host host_in kept)
     ])))
 
@@ -57,7 +54,7 @@ stay_joined : (graph : Graph) (v : View) (a b : ℕ) → a < graph.hosts → b <
 stay_joined graph v a b a_in b_in one other =
     let w : View = told_view graph v in
     let left : (host : ℕ) → host < graph.hosts → is_kept w host ≡ true → is_left graph v.members w.doomed host ≡ true =
-    λ host host_in kept. and_both (is_host graph host) (is_kept w host) (below_host host graph.hosts host_in) kept in
+    λ host host_in kept. and_from (is_host graph host) (is_kept w host) (lt-ltb host graph.hosts host_in) kept in
     reaches_fed graph (intact v) (intact v) (dropped_view graph w).live a b (λ link known is. is) (fed_alive graph w a a_in one)
     (kept_reach graph (intact v) v.members v.doomed a b (left a a_in one) (left b b_in other))
 
@@ -79,7 +76,7 @@ stays : (graph : Graph) (v : View) (host : ℕ) → host < graph.hosts → (is_a
 stays graph v host host_in before over trusted =
     let w : View = told_view graph v in
     let done : IsOver w host = over_at graph w host over host_in in
-    and_both (v.members host) (not (w.doomed host)) (before (trusted_told graph v host trusted)) (not_gives (w.doomed host) (done.trusted trusted))
+    and_from (v.members host) (not (w.doomed host)) (before (trusted_told graph v host trusted)) (not_from_false (w.doomed host) (done.trusted trusted))
 
 pub keeps_present_members : (graph : Graph) (past : List Record) (r : Record) → ArePresentMembers graph past → ArePresentMembers graph (r ∷ past)
 keeps_present_members graph past r before host host_in =

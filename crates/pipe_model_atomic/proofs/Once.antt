@@ -2,7 +2,7 @@
 use Rattle.std.proofs.Common.{◌≡◌, ◌≢◌, ℕ, zero, suc, ◌+◌, ◌≤◌, ◌==◌, ◌||◌, not, if◌then◌else◌, cond, Bool, true, false, List, [], ◌∷◌, ◌++◌, map, filter, Option, None, Some, refl, sym, ◌∙◌, true≢false, eq-eqb, arith}
 use Rattle.std.specs.Prelude.{flat_map}
 use Rattle.std.specs.List.{All, AllPairs, list_all, range_with_len}
-use Rattle.std.proofs.lemmas.Bool.{and_parts}
+use Rattle.std.proofs.lemmas.Bool.{and_parts, not-true}
 use Rattle.std.proofs.lemmas.List.Elements.{All-append, All-cons, All-head, All-nil, All-tail, All-weaker}
 use Rattle.std.proofs.lemmas.List.Kept.{AllPairs-cons}
 use Rattle.pipe_base.specs.declared.control.Announced.{Announced}
@@ -10,7 +10,6 @@ use Rattle.pipe_base.specs.declared.name.HostId.{HostId}
 use Rattle.pipe_base.specs.declared.name.Ts.{Ts}
 use Rattle.pipe_base.specs.Failed.{is_announced}
 use Rattle.pipe_graph.specs.Graph.{Graph}
-use Rattle.pipe_graph.proofs.Tests.{not_is}
 use Rattle.pipe_model.specs.declared.record.Record.{Record}
 use Rattle.pipe_model.specs.Controller.{view}
 use Rattle.pipe_model.specs.Decision.{after_doom, can_go, due_hosts, host_id, newly_announced, time_at, with_time}
@@ -102,7 +101,7 @@ both_differ (x ∷ xs) ys one other across =
     (λ (y : Announced) all. All-tail (λ (z : Announced). Differ z y) x xs all) ys across))
 
 going_new : (graph : Graph) (v : View) (host : ℕ) (time : Ts) → IsGoing graph v host time → is_announced host v.announced ≡ false
-going_new graph v host time going = not_is (is_announced host v.announced) (and_parts (v.doomed host) (not (is_announced host v.announced)) going.due).1
+going_new graph v host time going = not-true (is_announced host v.announced) (and_parts (v.doomed host) (not (is_announced host v.announced)) going.due).1
 
 once_more : (graph : Graph) (v : View) → AllPairs Differ v.announced → AllPairs Differ (v.announced ++ newly_announced graph v)
 once_more graph v before =

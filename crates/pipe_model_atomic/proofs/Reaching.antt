@@ -1,11 +1,11 @@
 -- Who reaches whom by which links.
 use Rattle.std.proofs.Common.{◌≡◌, ℕ, ◌+◌, ◌<◌, ◌≤◌, ◌==◌, ◌&&◌, Bool, true, false, List, [], ◌∷◌, ◌++◌, length, refl, sym, subst, ◌∙◌, eq-eqb, length-append, true≢false, arith}
+use Rattle.std.proofs.lemmas.Bool.{and_from, false_from_ne_true, or_left, or_right}
 use Rattle.pipe_graph.specs.Graph.{Graph, head_of, is_half, tail_of}
 use Rattle.pipe_graph.specs.Path.{IsPath, LeavesBy, Leads}
 use Rattle.pipe_graph.specs.Reach.{feeds, leads_within, reaches}
 use Rattle.pipe_graph.proofs.PathLaws.{HasAll, leads_more, path_append}
 use Rattle.pipe_graph.proofs.ReachLaws.{goes_on_from, goes_on_gives, leads_is_within, within_leads}
-use Rattle.pipe_graph.proofs.Tests.{and_both, not_from, or_left, or_right}
 
 -- a way from one node to another that is short enough for the test
 pub record IsWay (graph : Graph) (by : ℕ → Bool) (start end : ℕ) : Type 0 where
@@ -43,7 +43,7 @@ reaches_more graph small large start end more reached =
 
 pub reaches_fewer : (graph : Graph) (small large : ℕ → Bool) (start end : ℕ) → HasAll graph small large → reaches graph large start end ≡ false → reaches graph small start end ≡ false
 reaches_fewer graph small large start end more cut =
-    not_from (reaches graph small start end) (λ reached. true≢false (sym (reaches_more graph small large start end more reached) ∙ cut))
+    false_from_ne_true (reaches graph small start end) (λ reached. true≢false (sym (reaches_more graph small large start end more reached) ∙ cut))
 
 -- ---- the links along a way are fed by its start
 
@@ -61,7 +61,7 @@ fed_later : (graph : Graph) (by : ℕ → Bool) (start half link : ℕ) → tail
     → feeds graph by start link ≡ true
 fed_later graph by start half link begins is reached =
     or_right (start == tail_of graph link) (is_half graph (tail_of graph link) && reaches graph by start (tail_of graph link))
-    (subst (λ (n : ℕ). (is_half graph n && reaches graph by start n) ≡ true) (sym begins) (and_both (is_half graph half) (reaches graph by start half) is reached))
+    (subst (λ (n : ℕ). (is_half graph n && reaches graph by start n) ≡ true) (sym begins) (and_from (is_half graph half) (reaches graph by start half) is reached))
 
 -- Let each link of a set be one of a larger set, and one of another set as well where the start feeds it by the larger one. Then
 -- what the start reaches by the set, it reaches by the other one.

@@ -27,7 +27,7 @@ use Rattle.pipe_model.specs.Moments.{moments_of, noted_hosts, received}
 use Rattle.pipe_model.specs.Recalled.{IsRecallAckTrue}
 use Rattle.pipe_model.specs.Recalls.{got_recall, recalled_in_time}
 use Rattle.pipe_model.specs.Run.{IsHistory, IsNodeStep}
-use Rattle.pipe_model.specs.Sender.{is_ack, is_recall_ack, sender_calls, with_answer, with_begun, with_noted}
+use Rattle.pipe_model.specs.Sender.{accepted_stamp, is_ack, is_recall_ack, sender_calls, with_answer, with_begun, with_noted}
 use Rattle.pipe_model.specs.Waiting.{waiting_on}
 use Rattle.pipe_model.proofs.Own.{own_more, own_same}
 use Rattle.pipe_model.proofs.Promises.{begun_after, begun_below_next, noted_is}
@@ -140,16 +140,16 @@ answered_now : (graph : Graph) (node : ℕ) (own : List Record) (r : Record) (s 
     → (is_recall_acked (sender_calls graph node own) s host ≡ true) ⊎ IsAnswer (gets graph node own r) (sender_calls graph node own) s host
 answered_now graph node own r s host is =
     let calls : List SenderCall = sender_calls graph node own in
-    let first : List SenderCall = with_begun r.event r.step.stamped calls in
+    let first : List SenderCall = with_begun r.event (accepted_stamp r.step) calls in
     elim (answer_new (gets graph node own r) first s host (noted_answers (noted_hosts (r ∷ own)) r.step.noted (with_answer (gets graph node own r) first) s host is)) [
-      | inl before ↦ inl (begun_answers r.event r.step.stamped calls s host before)
+      | inl before ↦ inl (begun_answers r.event (accepted_stamp r.step) calls s host before)
       | inr now ↦ inr (record {
         packet = now.packet;
         brought = now.brought;
         kind = now.kind;
         stamp = now.stamp;
         sender = now.sender;
-        recalled = begun_recalls r.event r.step.stamped calls s now.recalled;
+        recalled = begun_recalls r.event (accepted_stamp r.step) calls s now.recalled;
       })
     ]
 

@@ -2,7 +2,7 @@
 -- noted as failed has answered.
 use Rattle.std.proofs.Common.{◌≡◌, ℕ, ◌==◌, ◌||◌, not, if◌then◌else◌, Bool, true, false, List, [], ◌∷◌, get_or, Option, None, Some, refl, inl, inr, sym, subst, ◌∙◌, eqb-true, true≢false}
 use Rattle.std.specs.List.{All, Contains, list_any}
-use Rattle.std.proofs.lemmas.Bool.{and_parts, or_cases}
+use Rattle.std.proofs.lemmas.Bool.{and_parts, false_from_ne_true, or_cases}
 use Rattle.std.proofs.lemmas.List.Elements.{All-contains}
 use Rattle.std.proofs.lemmas.List.Folds.{list_any_at}
 use Rattle.pipe_base.specs.declared.message.Key.{Key}
@@ -12,7 +12,6 @@ use Rattle.pipe_graph.specs.Graph.{Graph}
 use Rattle.pipe_base.specs.Messages.{same_key}
 use Rattle.pipe_base.specs.Scattering.{Scattering, SenderCall}
 use Rattle.pipe_base.specs.Settled.{awaits, is_noted, is_prepared, is_recall_acked, is_recalled, is_settled}
-use Rattle.pipe_graph.proofs.Tests.{not_from}
 use Rattle.pipe_model.specs.declared.record.Record.{Record}
 use Rattle.pipe_model.specs.Acting.{own}
 use Rattle.pipe_model.specs.AllOrNone.{key_from}
@@ -85,6 +84,6 @@ pub not_taken_back : (graph : Graph) (past : List Record) (sender host : ℕ) (s
     → is_recalled (sender_calls graph sender (own graph sender past)) s ≡ false → got_recall graph host (key_from sender s) (own graph host past) ≡ false
 not_taken_back graph past sender host s run among isnt =
     let calls : List SenderCall = sender_calls graph sender (own graph sender past) in
-    not_from (got_recall graph host (key_from sender s) (own graph host past)) (λ got.
+    false_from_ne_true (got_recall graph host (key_from sender s) (own graph host past)) (λ got.
     let back : IsTakenBack calls s.ts.0 = got_back graph past host (key_from sender s) (own graph host past) ((recalls_true graph past run).received host) got in
     true≢false (sym (All-contains (λ (x : Scattering). x.ts.0 ≡ s.ts.0 → is_recalled calls x ≡ true) (begun_by graph past sender) s back.recalled among refl) ∙ isnt))

@@ -1,6 +1,6 @@
 -- What a record does to what the controller knows: one report or count more, a decision, or nothing.
 use Rattle.std.proofs.Common.{◌≡◌, ℕ, ◌<◌, ◌==◌, ◌&&◌, if◌then◌else◌, nat_le, nat_lt, not, Bool, true, false, List, [], ◌∷◌, ◌++◌, length, None, Some, refl, arith}
-use Rattle.std.proofs.lemmas.Bool.{and_parts}
+use Rattle.std.proofs.lemmas.Bool.{and_parts, ltb-true}
 use Rattle.std.proofs.lemmas.Bool.Decides.{nat_tests}
 use Rattle.pipe_base.specs.declared.control.Addressed.{Addressed}
 use Rattle.pipe_base.specs.declared.control.Control.{Control}
@@ -109,9 +109,6 @@ decision_after P graph v told drops = drop_by P (all_over graph (told_view graph
 
 -- ---- who takes part, and which links count
 
-pub host_below : (node hosts : ℕ) → nat_lt node hosts ≡ true → node < hosts
-host_below node hosts is = grind (arith, nat_tests, is)
-
 -- who takes part did so before
 pub member_before : (graph : Graph) (past : List Record) (r : Record) (host : ℕ) → is_member graph (r ∷ past) host ≡ true → is_member graph past host ≡ true
 member_before graph past r host =
@@ -122,7 +119,7 @@ member_before graph past r host =
 
 -- and is a host of the graph
 pub member_in : (graph : Graph) (past : List Record) (host : ℕ) → is_member graph past host ≡ true → host < graph.hosts
-member_in graph [] host member = host_below host graph.hosts member
+member_in graph [] host member = ltb-true host graph.hosts member
 member_in graph (r ∷ past) host member = member_in graph past host (member_before graph past r host member)
 
 -- a link that counts did so before
@@ -135,7 +132,7 @@ live_before graph past r link =
 
 -- and is a link of the graph
 pub live_in : (graph : Graph) (past : List Record) (link : ℕ) → is_live graph past link ≡ true → link < length graph.links
-live_in graph [] link live = host_below link (length graph.links) live
+live_in graph [] link live = ltb-true link (length graph.links) live
 live_in graph (r ∷ past) link live = live_in graph past link (live_before graph past r link live)
 
 -- ---- those that are announced, and what is dropped

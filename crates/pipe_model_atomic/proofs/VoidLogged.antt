@@ -1,6 +1,7 @@
 -- Nothing void is logged: what a host logs is not void by what it has noted, and its barrier is at most the time of a host that it
 -- has not noted.
 use Rattle.std.proofs.Common.{◌≡◌, ℕ, ◌<◌, ◌≤◌, not, Bool, true, false, List, ◌∷◌, map, get_or, refl, sym, subst, ap, ◌∙◌, true≢false, arith}
+use Rattle.std.proofs.lemmas.Bool.{not-true}
 use Rattle.std.specs.List.{All}
 use Rattle.std.proofs.lemmas.List.Elements.{All-append, All-filter, All-map, All-weaker, filter_passes}
 use Rattle.pipe_base.specs.declared.control.Announced.{Announced}
@@ -11,7 +12,6 @@ use Rattle.pipe_base.specs.declared.packet.Plane.TheVariants.{Commit}
 use Rattle.pipe_base.specs.Failed.{is_announced, is_void, without_void}
 use Rattle.pipe_graph.specs.Graph.{Graph}
 use Rattle.pipe_base.specs.Messages.{Messages, entry_of, from_barrier}
-use Rattle.pipe_graph.proofs.Tests.{not_is}
 use Rattle.pipe_model.specs.declared.record.Record.{Record}
 use Rattle.pipe_model.specs.Acting.{is_own, own}
 use Rattle.pipe_model.specs.Controller.{announced}
@@ -48,7 +48,7 @@ passed_free graph node own r =
     (All-filter _ P (from_barrier (barrier_at Commit graph node own) stands)
     (All-filter _ P stands
     (All-filter _ P (without_void failed ms)
-    (All-weaker (λ (m : Key × List ℕ). not (is_void failed m.0) ≡ true) P (λ (m : Key × List ℕ) is. not_is (is_void failed m.0) is) (without_void failed ms)
+    (All-weaker (λ (m : Key × List ℕ). not (is_void failed m.0) ≡ true) P (λ (m : Key × List ℕ) is. not-true (is_void failed m.0) is) (without_void failed ms)
     (filter_passes (λ (m : Key × List ℕ). not (is_void failed m.0)) ms)))))
 
 logged_free : (graph : Graph) (node : ℕ) (own : List Record) (r : Record) → IsNodeStep graph node own r

@@ -1,7 +1,7 @@
 -- Control messages that wait are true: lists are told from their first item on, and no count is above what its node has noted.
 use Rattle.std.specs.Prelude.{◌≤◌, List, All, length}
 use Rattle.pipe_base.specs.declared.control.Control.{Control}
-use Rattle.pipe_base.specs.declared.control.Control.TheVariants.{Done, DropLinks, Gone, Notice}
+use Rattle.pipe_base.specs.declared.control.Control.TheVariants.{Done, Down, DropLinks, Freeze, Gone, Notice}
 use Rattle.pipe_graph.specs.Graph.{Graph}
 use Rattle.pipe_model.specs.declared.record.Record.{Record}
 use Rattle.pipe_model.specs.Acting.{own}
@@ -17,7 +17,8 @@ IsControlTrue graph past (Notice list) = Begins list (announced graph past)
 IsControlTrue graph past (DropLinks list) = Begins list (dropped graph past)
 IsControlTrue graph past (Done host count) = count ≤ length (noted_hosts (own graph host.0 past))
 IsControlTrue graph past (Gone node count) = count ≤ length (known_drops (own graph node.0 past))
-IsControlTrue graph past _ = Unit {0}
+IsControlTrue graph past (Down link value) = Unit {0}
+IsControlTrue graph past (Freeze link) = Unit {0}
 
 abbrev pub IsControlAllTrue : Graph → List Record → Type 0
 IsControlAllTrue graph past = All (λ m. IsControlTrue graph past m.control) (waiting_control past)

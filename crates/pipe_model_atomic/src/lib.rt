@@ -2,7 +2,7 @@
 //! all their logs or in none, and no reliable message is late of itself. It rests on a few sentences that hold at every moment.
 #![tactic(auto)]
 
-ghost use Rattle.std.specs.Prelude.{◌≡◌, ◌≤◌, ◌↔◌, ℕ, false, List, ◌∷◌, ◌++◌, Some};
+ghost use Rattle.std.specs.Prelude.{◌≡◌, ◌≤◌, ◌↔◌, ℕ, false, List, ◌∷◌, ◌++◌, Some, reverse};
 ghost use Rattle.pipe_base.specs.declared.name.Ts.{Ts};
 ghost use Rattle.pipe_base.specs.declared.packet.Plane.TheVariants.{Commit};
 ghost use Rattle.pipe_base.specs.Failed.{is_announced, time_of};
@@ -12,12 +12,17 @@ ghost use Rattle.pipe_graph.specs.Reach.{JoinsAllHosts};
 ghost use Rattle.pipe_model.specs.declared.record.Record.{Record};
 ghost use Rattle.pipe_model.specs.Acting.{own};
 ghost use Rattle.pipe_model.specs.AllOrNone.{IsAllOrNone};
+ghost use Rattle.pipe_base.specs.Limits.{most_items};
+ghost use Rattle.pipe_model.specs.declared.event.Event.{Event};
 ghost use Rattle.pipe_model.specs.Controller.{announced, is_live, view};
+ghost use Rattle.pipe_model.specs.Correct.{announced_in};
+ghost use Rattle.pipe_model.specs.Items.{items_of};
+ghost use Rattle.pipe_model.specs.OrderedRun.{IsOrderedRun};
 ghost use Rattle.pipe_model.specs.LateMessage.{IsNoneLateOfItself};
 ghost use Rattle.pipe_model.specs.Moments.{barrier_at, noted_hosts};
 ghost use Rattle.pipe_model.specs.NeverLate.{AreOfGraph};
 ghost use Rattle.pipe_model.specs.NodePromise.{node_promise};
-ghost use Rattle.pipe_model.specs.Run.{IsHistory};
+ghost use Rattle.pipe_model.specs.Run.{IsHistory, IsRun};
 ghost use Rattle.pipe_model_atomic.specs.NotedOrCutOff.{AreReportedPaths, IsCutOff};
 ghost use Rattle.pipe_model_atomic.specs.Present.{IsPresent};
 ghost use Rattle.pipe_model_atomic.specs.Sentences.{Sentences};
@@ -79,4 +84,17 @@ pub fn every_run_is_all_or_none()
 pub fn no_reliable_message_is_late_of_itself()
     ensures { (graph : Graph) (past : List Record) → JoinsAllHosts graph → IsHistory graph past → AreOfGraph graph past
         → IsNoneLateOfItself graph past }
+{}
+
+/// In every run the hosts that decisions recorded as announced are those that the controller knows as announced: so who is
+/// correct can be read off the records.
+pub fn announced_hosts_are_recorded()
+    ensures { (graph : Graph) (past : List Record) → IsHistory graph past → announced_in past ≡ announced graph past }
+{}
+
+/// The promises of the channel, in one place: every run of events of a network whose hosts are joined keeps them all.
+pub fn every_run_keeps_its_promises()
+    ensures { (graph : Graph) (events : List Event) (trace : List Record) → JoinsAllHosts graph
+        → AreOfGraph graph (reverse trace) → items_of trace ≤ most_items → IsRun graph events trace
+        → IsOrderedRun graph events trace }
 {}

@@ -25,13 +25,14 @@ use Rattle.pipe_model_net.proofs.Acting.{IsNobodys, nobodys_or_own}
 abbrev of : Event → Took → Step → Record
 of e t s = record { event = e; took = t; step = s }
 
--- what a node owes is a function of the event, what was taken, the stamp, the fate, the marks, what was noted and what was logged
+-- what a node owes is a function of the event, its outcome, what was taken, the stamp, the fate, the marks, what was noted and what was logged
 control_same : (graph : Graph) (n : ℕ) (o : List Record) (e : Event) (t : Took) (a b : Step) → a.downed ≡ b.downed → a.dropped ≡ b.dropped
-    → a.stamped ≡ b.stamped → a.noted ≡ b.noted → control graph n o (of e t a) ≡ control graph n o (of e t b)
-control_same graph n o e t a b down drop stamp note =
+    → a.stamped ≡ b.stamped → a.noted ≡ b.noted → a.outcome ≡ b.outcome → control graph n o (of e t a) ≡ control graph n o (of e t b)
+control_same graph n o e t a b down drop stamp note out =
     let f : List (LinkId × Ts) → List LinkId → Option Ts → List Announced → List Addressed =
-    λ d l s h. control graph n o (of e t (record a { downed = d; dropped = l; stamped = s; noted = h })) in
-    ap (λ (d : List (LinkId × Ts)). f d a.dropped a.stamped a.noted) down ∙ ap (λ (l : List LinkId). f b.downed l a.stamped a.noted) drop
+    λ d l s h. control graph n o (of e t (record a { downed = d; dropped = l; stamped = s; noted = h; outcome = b.outcome })) in
+    ap (λ (x : Outcome). control graph n o (of e t (record a { outcome = x }))) out
+    ∙ ap (λ (d : List (LinkId × Ts)). f d a.dropped a.stamped a.noted) down ∙ ap (λ (l : List LinkId). f b.downed l a.stamped a.noted) drop
     ∙ ap (λ (s : Option Ts). f b.downed b.dropped s a.noted) stamp ∙ ap (λ (h : List Announced). f b.downed b.dropped b.stamped h) note
 
 logged_same : (graph : Graph) (n : ℕ) (o : List Record) (e : Event) (t : Took) (a b : Step) → a.downed ≡ b.downed → a.dropped ≡ b.dropped → a.noted ≡ b.noted
@@ -41,21 +42,23 @@ logged_same graph n o e t a b down drop note =
     ap (λ (d : List (LinkId × Ts)). f d a.dropped a.noted) down ∙ ap (λ (l : List LinkId). f b.downed l a.noted) drop ∙ ap (λ (h : List Announced). f b.downed b.dropped h) note
 
 put_same : (graph : Graph) (n : ℕ) (o : List Record) (e : Event) (t : Took) (a b : Step) → a.downed ≡ b.downed → a.dropped ≡ b.dropped
-    → a.stamped ≡ b.stamped → a.fate ≡ b.fate → a.logged ≡ b.logged → a.noted ≡ b.noted → put graph n o (of e t a) ≡ put graph n o (of e t b)
-put_same graph n o e t a b down drop stamp fate log note =
+    → a.stamped ≡ b.stamped → a.fate ≡ b.fate → a.logged ≡ b.logged → a.noted ≡ b.noted → a.outcome ≡ b.outcome → put graph n o (of e t a) ≡ put graph n o (of e t b)
+put_same graph n o e t a b down drop stamp fate log note out =
     let f : List (LinkId × Ts) → List LinkId → Option Ts → Option Fate → List (Service × Entry) → List Announced → List (LinkId × Packet) =
-    λ d l s x m h. put graph n o (of e t (record a { downed = d; dropped = l; stamped = s; fate = x; logged = m; noted = h })) in
-    ap (λ (d : List (LinkId × Ts)). f d a.dropped a.stamped a.fate a.logged a.noted) down ∙ ap (λ (l : List LinkId). f b.downed l a.stamped a.fate a.logged a.noted) drop
+    λ d l s x m h. put graph n o (of e t (record a { downed = d; dropped = l; stamped = s; fate = x; logged = m; noted = h; outcome = b.outcome })) in
+    ap (λ (x : Outcome). put graph n o (of e t (record a { outcome = x }))) out
+    ∙ ap (λ (d : List (LinkId × Ts)). f d a.dropped a.stamped a.fate a.logged a.noted) down ∙ ap (λ (l : List LinkId). f b.downed l a.stamped a.fate a.logged a.noted) drop
     ∙ ap (λ (s : Option Ts). f b.downed b.dropped s a.fate a.logged a.noted) stamp ∙ ap (λ (x : Option Fate). f b.downed b.dropped b.stamped x a.logged a.noted) fate
     ∙ ap (λ (m : List (Service × Entry)). f b.downed b.dropped b.stamped b.fate m a.noted) log
     ∙ ap (λ (h : List Announced). f b.downed b.dropped b.stamped b.fate b.logged h) note
 
 unrouted_same : (graph : Graph) (n : ℕ) (o : List Record) (e : Event) (t : Took) (a b : Step) → a.downed ≡ b.downed → a.dropped ≡ b.dropped
-    → a.stamped ≡ b.stamped → a.fate ≡ b.fate → a.logged ≡ b.logged → a.noted ≡ b.noted → unrouted graph n o (of e t a) ≡ unrouted graph n o (of e t b)
-unrouted_same graph n o e t a b down drop stamp fate log note =
+    → a.stamped ≡ b.stamped → a.fate ≡ b.fate → a.logged ≡ b.logged → a.noted ≡ b.noted → a.outcome ≡ b.outcome → unrouted graph n o (of e t a) ≡ unrouted graph n o (of e t b)
+unrouted_same graph n o e t a b down drop stamp fate log note out =
     let f : List (LinkId × Ts) → List LinkId → Option Ts → Option Fate → List (Service × Entry) → List Announced → ℕ =
-    λ d l s x m h. unrouted graph n o (of e t (record a { downed = d; dropped = l; stamped = s; fate = x; logged = m; noted = h })) in
-    ap (λ (d : List (LinkId × Ts)). f d a.dropped a.stamped a.fate a.logged a.noted) down ∙ ap (λ (l : List LinkId). f b.downed l a.stamped a.fate a.logged a.noted) drop
+    λ d l s x m h. unrouted graph n o (of e t (record a { downed = d; dropped = l; stamped = s; fate = x; logged = m; noted = h; outcome = b.outcome })) in
+    ap (λ (x : Outcome). unrouted graph n o (of e t (record a { outcome = x }))) out
+    ∙ ap (λ (d : List (LinkId × Ts)). f d a.dropped a.stamped a.fate a.logged a.noted) down ∙ ap (λ (l : List LinkId). f b.downed l a.stamped a.fate a.logged a.noted) drop
     ∙ ap (λ (s : Option Ts). f b.downed b.dropped s a.fate a.logged a.noted) stamp ∙ ap (λ (x : Option Fate). f b.downed b.dropped b.stamped x a.logged a.noted) fate
     ∙ ap (λ (m : List (Service × Entry)). f b.downed b.dropped b.stamped b.fate m a.noted) log
     ∙ ap (λ (h : List Announced). f b.downed b.dropped b.stamped b.fate b.logged h) note
@@ -86,8 +89,8 @@ node_step_same graph n o e t a b sa sb out =
     let fate : a.fate ≡ b.fate = sa.fate_is ∙ sym sb.fate_is in
     let note : a.noted ≡ b.noted = sa.noted_is ∙ sym sb.noted_is in
     let log : a.logged ≡ b.logged = sa.logged_is ∙ logged_same graph n o e t a b down drop note ∙ sym sb.logged_is in
-    parts_same a b (sa.put_is ∙ put_same graph n o e t a b down drop stamp fate log note ∙ sym sb.put_is) (sa.control_is ∙ control_same graph n o e t a b down drop stamp note ∙ sym sb.control_is) down drop stamp fate log note
-    (sa.unrouted_is ∙ unrouted_same graph n o e t a b down drop stamp fate log note ∙ sym sb.unrouted_is) out
+    parts_same a b (sa.put_is ∙ put_same graph n o e t a b down drop stamp fate log note out ∙ sym sb.put_is) (sa.control_is ∙ control_same graph n o e t a b down drop stamp note out ∙ sym sb.control_is) down drop stamp fate log note
+    (sa.unrouted_is ∙ unrouted_same graph n o e t a b down drop stamp fate log note out ∙ sym sb.unrouted_is) out
 
 step_same : (graph : Graph) (past : List Record) (e : Event) (t : Took) (a b : Step) → IsStep graph past (of e t a) → IsStep graph past (of e t b) → a ≡ b
 step_same graph past e t a b sa sb =

@@ -98,7 +98,7 @@ held_sent : (service : Service) (graph : Graph) (past : List Record) (n : ℕ) �
 held_sent service graph [] n run = All-nil (SentTo service n [])
 held_sent service graph (r ∷ past) n run = held_by service graph past r n (is_own graph n r) refl run.0 run.1 (held_sent service graph past n run.0)
 
-passed_sent : (service : Service) (graph : Graph) (past : List Record) (r : Record) (n : ℕ) → IsHistory graph past → IsStep graph past r
+pub passed_sent : (service : Service) (graph : Graph) (past : List Record) (r : Record) (n : ℕ) → IsHistory graph past → IsStep graph past r
     → All (SentTo service n past) (passed_in service graph n (own graph n past) r)
 passed_sent service graph past r n run step =
     let o : List Record = own graph n past in

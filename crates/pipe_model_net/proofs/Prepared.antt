@@ -21,7 +21,7 @@ use Rattle.pipe_model.specs.Moments.{noted_hosts, received}
 use Rattle.pipe_model.specs.Packets.{receipts, with_receipt}
 use Rattle.pipe_model.specs.PreparedHeld.{ArePreparedHeld, IsHeldByAll}
 use Rattle.pipe_model.specs.Run.{IsHistory}
-use Rattle.pipe_model.specs.Sender.{is_ack, is_recall_ack, sender_calls, with_answer, with_begun, with_noted}
+use Rattle.pipe_model.specs.Sender.{accepted_stamp, is_ack, is_recall_ack, sender_calls, with_answer, with_begun, with_noted}
 use Rattle.pipe_model_net.proofs.Acks.{acks_true}
 
 -- ---- the packet that a host gets
@@ -104,13 +104,13 @@ acked_held : (graph : Graph) (past : List Record) (host : ℕ) (own : List Recor
     → (ts other : ℕ) → is_acked (sender_calls graph host own) ts other ≡ true → WasHeld graph past host ts other
 acked_held graph past host [] all ts other is = cc
 acked_held graph past host (r ∷ own) all ts other is =
-    let first : List SenderCall = with_begun r.event r.step.stamped (sender_calls graph host own) in
+    let first : List SenderCall = with_begun r.event (accepted_stamp r.step) (sender_calls graph host own) in
     by_gets graph past host ts other (gets graph host own r) first
     (λ p got.
     let w = is_got graph host (received graph host own r) p got in
     (newest (Receipt graph past) (received graph host own r) (w.link, p) (receipts graph host own) w.received_is all, w.dst))
     (λ old. acked_held graph past host own (rest_of (Receipt graph past) (received graph host own r) (receipts graph host own) all) ts other
-    (begun_acked r.event r.step.stamped (sender_calls graph host own) ts other old))
+    (begun_acked r.event (accepted_stamp r.step) (sender_calls graph host own) ts other old))
     (noted_acked (noted_hosts (r ∷ own)) r.step.noted (with_answer (gets graph host own r) first) ts other is)
 
 -- ---- all receivers

@@ -30,7 +30,7 @@ use Rattle.pipe_model.specs.Packets.{receipts}
 use Rattle.pipe_model.specs.Recalled.{AreRecallAcksTrue, IsRecallAckTrue}
 use Rattle.pipe_model.specs.Recalls.{got_recall, is_recall, takes_back}
 use Rattle.pipe_model.specs.Run.{IsHistory, IsStep}
-use Rattle.pipe_model.specs.Sender.{is_ack, is_recall_ack, sender_calls, with_answer, with_begun, with_noted}
+use Rattle.pipe_model.specs.Sender.{accepted_stamp, is_ack, is_recall_ack, sender_calls, with_answer, with_begun, with_noted}
 use Rattle.pipe_model.proofs.Own.{own_more, own_same}
 use Rattle.pipe_model.proofs.Recalls.{recall_stays}
 use Rattle.pipe_model_net.proofs.Acting.{nobodys_or_own, quiet_puts}
@@ -157,13 +157,13 @@ acked_back : (graph : Graph) (past : List Record) (host : ℕ) (own : List Recor
     → (s : Scattering) (other : ℕ) → is_recall_acked (sender_calls graph host own) s other ≡ true → WasBack graph past host s.ts.0 other
 acked_back graph past host [] all s other is = cc
 acked_back graph past host (r ∷ own) all s other is =
-    let first : List SenderCall = with_begun r.event r.step.stamped (sender_calls graph host own) in
+    let first : List SenderCall = with_begun r.event (accepted_stamp r.step) (sender_calls graph host own) in
     by_gets graph past host s other (gets graph host own r) first
     (λ p got.
     let w = is_got graph host (received graph host own r) p got in
     (newest (Receipt graph past) (received graph host own r) (w.link, p) (receipts graph host own) w.received_is all, w.dst))
     (λ old. acked_back graph past host own (rest_of (Receipt graph past) (received graph host own r) (receipts graph host own) all) s other
-    (begun_counts r.event r.step.stamped (sender_calls graph host own) s other old))
+    (begun_counts r.event (accepted_stamp r.step) (sender_calls graph host own) s other old))
     (noted_counts (noted_hosts (r ∷ own)) r.step.noted (with_answer (gets graph host own r) first) s other is)
 
 pub recall_acked_back : (graph : Graph) (past : List Record) → IsHistory graph past → (host other : ℕ) (s : Scattering)

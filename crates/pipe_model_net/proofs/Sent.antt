@@ -12,7 +12,7 @@ use Rattle.pipe_base.specs.declared.packet.Packet.{Packet}
 use Rattle.pipe_graph.specs.Graph.{Graph}
 use Rattle.pipe_base.specs.Messages.{entry_of}
 use Rattle.pipe_base.specs.Moment.{Moment, is_up}
-use Rattle.pipe_base.specs.Packets.{Fields, ack_to, beacon, forwarded, prepare_to, recall_ack_to, recall_to, sent_to}
+use Rattle.pipe_base.specs.Packets.{Fields, ack_to, beacon, forwarded, recall_ack_to, recall_to, sent_to}
 use Rattle.pipe_base.specs.Scattering.{Scattering, SenderCall, begun}
 use Rattle.pipe_base.specs.Settled.{is_settled, unsettled}
 use Rattle.pipe_model.specs.declared.event.Event.{Event}
@@ -95,18 +95,15 @@ sent_by graph past r n f host service now ts dests step mine event stamp d among
       listed = subst (λ (e : Event). IsSendTo service d.0.0 (entry_to host ts d) e) (sym event) (refl, (refl, among));
     }))
 
--- a message that is put again was sent
-resent_by : (graph : Graph) (past : List Record) (r : Record) (n : ℕ) (f : Fields) (s : Scattering) → IsHistory graph (r ∷ past) → is_own graph n r ≡ true
-    → Contains (unsettled (sender_calls graph n (r ∷ own graph n past))) s
-    → (d : HostId × List ℕ) → Contains s.dests d → IsMessageSent (r ∷ past) (prepare_to (record { 0 = n }) s.ts f d)
-resent_by graph past r n f s run mine among d listed =
+-- a scattering that is not settled was sent
+pub unsettled_sent : (graph : Graph) (past : List Record) (r : Record) (n : ℕ) (s : Scattering) → IsHistory graph (r ∷ past) → is_own graph n r ≡ true
+    → Contains (unsettled (sender_calls graph n (r ∷ own graph n past))) s → IsScatteringSent n (r ∷ past) s
+unsettled_sent graph past r n s run mine among =
     let calls : List SenderCall = sender_calls graph n (r ∷ own graph n past) in
     let all : All (IsScatteringSent n (r ∷ past)) (begun calls) =
     subst (λ (o : List Record). All (IsScatteringSent n (r ∷ past)) (begun (sender_calls graph n o))) (own_more graph n r past mine) (begun_sent graph (r ∷ past) run n) in
-    let here : IsScatteringSent n (r ∷ past) s =
     All-contains (IsScatteringSent n (r ∷ past)) (unsettled calls) s
-    (All-filter (λ (t : Scattering). not (is_settled calls t)) (IsScatteringSent n (r ∷ past)) (begun calls) all) among in
-    one_sent Reliable (r ∷ past) (record { 0 = n }) s.ts f d (here d listed)
+    (All-filter (λ (t : Scattering). not (is_settled calls t)) (IsScatteringSent n (r ∷ past)) (begun calls) all) among
 
 -- what a half passes on was sent
 passed_sent : (past : List Record) (r : Record) (f : Fields) (p : Packet) → IsMessageSent past p → IsMessageSent (r ∷ past) (forwarded f p)
@@ -121,7 +118,8 @@ puts_of_own graph past r n run step mine sent =
     let f : Fields = fields graph n o r in
     puts_each (IsMessageSent (r ∷ past)) graph n o r (step.node n mine) (record {
       sent = λ host service now ts dests event stamp d among. sent_by graph past r n f host service now ts dests step mine event stamp d among;
-      resent = λ s among d listed. resent_by graph past r n f s (run, step) mine among d listed;
+      resent = λ s among d listed.
+          one_sent Reliable (r ∷ past) (record { 0 = n }) s.ts f d (unsettled_sent graph past r n s (run, step) mine among d listed);
       recalled = λ s among is d listed. recall_sent (r ∷ past) (record { 0 = n }) s.ts f d;
       passed = λ q at half other.
           let took = received_took (moments_of graph n o) r.event r.took q at in passed_sent past r f q.1 (sent took.0 q.1 took.1);

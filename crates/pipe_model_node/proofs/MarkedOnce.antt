@@ -35,29 +35,29 @@ IsDown moments m = is_up moments m.0.0 ≡ false
 
 -- ---- pairs in a list made of two
 
-pairs_tail : {X : Type 0} (R : X → X → Type 0) (x : X) (xs : List X) → AllPairs R (x ∷ xs) → AllPairs R xs
+pub pairs_tail : {X : Type 0} (R : X → X → Type 0) (x : X) (xs : List X) → AllPairs R (x ∷ xs) → AllPairs R xs
 pairs_tail R x xs all = λ i j d lt within. all (suc i) (suc j) d (omega arith) (omega arith)
 
-pairs_head : {X : Type 0} (R : X → X → Type 0) (x : X) (xs : List X) → AllPairs R (x ∷ xs) → All (R x) xs
+pub pairs_head : {X : Type 0} (R : X → X → Type 0) (x : X) (xs : List X) → AllPairs R (x ∷ xs) → All (R x) xs
 pairs_head R x xs all = λ k d within. all 0 (suc k) d (omega arith) (omega arith)
 
-pairs_both : {X : Type 0} (R : X → X → Type 0) (xs ys : List X) → AllPairs R xs → AllPairs R ys → All (λ x. All (R x) ys) xs → AllPairs R (xs ++ ys)
+pub pairs_both : {X : Type 0} (R : X → X → Type 0) (xs ys : List X) → AllPairs R xs → AllPairs R ys → All (λ x. All (R x) ys) xs → AllPairs R (xs ++ ys)
 pairs_both R [] ys one other across = other
 pairs_both R (x ∷ xs) ys one other across =
     AllPairs-cons R x (xs ++ ys) (All-append (R x) xs ys (pairs_head R x xs one) (All-head (λ z. All (R z) ys) x xs across))
     (pairs_both R xs ys (pairs_tail R x xs one) other (All-tail (λ z. All (R z) ys) x xs across))
 
-pairs_map : {X Y : Type 0} (R : Y → Y → Type 0) (f : X → Y) (xs : List X) → AllPairs (λ x z. R (f x) (f z)) xs → AllPairs R (map f xs)
+pub pairs_map : {X Y : Type 0} (R : Y → Y → Type 0) (f : X → Y) (xs : List X) → AllPairs (λ x z. R (f x) (f z)) xs → AllPairs R (map f xs)
 pairs_map R f [] all = λ i j d lt within. absurd (omega arith)
 pairs_map R f (x ∷ xs) all =
     AllPairs-cons R (f x) (map f xs) (All-map (R (f x)) f xs (pairs_head (λ z w. R (f z) (f w)) x xs all)) (pairs_map R f xs (pairs_tail (λ z w. R (f z) (f w)) x xs all))
 
 -- ---- what a record marks: links that are up, each once
 
-abbrev AreTwo : LinkId → LinkId → Type 0
+abbrev pub AreTwo : LinkId → LinkId → Type 0
 AreTwo a b = a.0 ≢ b.0
 
-links_differ : (graph : Graph) → AllPairs AreTwo (all_links graph)
+pub links_differ : (graph : Graph) → AllPairs AreTwo (all_links graph)
 links_differ graph = λ i j d lt within same.
     let n : ℕ = length graph.links in
     let last : j < n = omega (arith, within, length-map-range_with_len link_id 0 n) in

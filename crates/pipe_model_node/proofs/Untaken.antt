@@ -2,7 +2,7 @@
 -- the barrier had not passed it.
 use Rattle.std.proofs.Common.{◌≡◌, inl, inr, ℕ, ◌<◌, ◌≤◌, ◌==◌, ◌&&◌, ◌||◌, nat_le, Bool, true, false, List, [], ◌∷◌, filter, refl, ap, ◌∙◌, arith, eqb-true, leb-true, cond}
 use Rattle.std.specs.List.{All}
-use Rattle.std.proofs.lemmas.Bool.{and_parts, or_cases}
+use Rattle.std.proofs.lemmas.Bool.{and_parts, or_cases, or_from}
 use Rattle.std.proofs.lemmas.List.Elements.{All-head, All-tail}
 use Rattle.std.proofs.lemmas.List.Folds.{list_any-append}
 use Rattle.pipe_base.specs.declared.message.Entry.{Entry}
@@ -27,17 +27,13 @@ use Rattle.pipe_model_node.proofs.Causal.{Below}
 use Rattle.pipe_model_node.proofs.Ordered.{log_below_barrier}
 use Rattle.pipe_model_node.proofs.Passed.{has_entries, has_entry}
 
-neither : (a b : Bool) → a ≡ false → b ≡ false → (a || b) ≡ false
-neither true b first second = first
-neither false b first second = second
-
 left_out : (stays : Bool) (key : Key) (m : Key × List ℕ) (ms rest : Messages) → (same_key m.0 key || has_key key ms) ≡ false
     → (has_key key ms ≡ false → has_key key rest ≡ false) → has_key key (cond stays (m ∷ rest) rest) ≡ false
 left_out stays key m ms rest none less = by (same_key m.0 key) stays refl none
   where
     by : (same stays : Bool) → same_key m.0 key ≡ same → (same || has_key key ms) ≡ false → has_key key (cond stays (m ∷ rest) rest) ≡ false
     by true stays is none = cc
-    by false true is none = neither (same_key m.0 key) (has_key key rest) is (less none)
+    by false true is none = or_from (same_key m.0 key) (has_key key rest) is (less none)
     by false false is none = less none
 
 -- a key that is not among messages is not among some of them
@@ -67,7 +63,7 @@ apart false e key bound is below low = is
 none_below : (bound : ℕ) (key : Key) (es : List Entry) → All (Below bound) es → bound ≤ key.ts.0 → has_entry key es ≡ false
 none_below bound key [] all low = refl
 none_below bound key (e ∷ es) all low =
-    neither (same_key e.key key) (has_entry key es) (apart (same_key e.key key) e key bound refl (All-head (Below bound) e es all) low)
+    or_from (same_key e.key key) (has_entry key es) (apart (same_key e.key key) e key bound refl (All-head (Below bound) e es all) low)
     (none_below bound key es (All-tail (Below bound) e es all) low)
 
 -- the recall came now with the barrier low, or came in time before
@@ -87,6 +83,6 @@ pub not_logged : (graph : Graph) (node : ℕ) (own : List Record) (key : Key) �
 not_logged graph node [] key history is = refl
 not_logged graph node (r ∷ own) key history is =
     list_any-append (λ (e : Entry). same_key e.key key) (log Reliable own) (entries_of Reliable r.step.logged)
-    ∙ neither (has_logged key own) (has_entry key (entries_of Reliable r.step.logged))
+    ∙ or_from (has_logged key own) (has_entry key (entries_of Reliable r.step.logged))
     (not_before graph node own r key history.0 is (not_logged graph node own key history.0))
     (not_now graph node own r key history.1 (in_time_got graph node key (r ∷ own) is))

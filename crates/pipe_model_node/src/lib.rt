@@ -27,8 +27,8 @@ ghost use Rattle.pipe_model.specs.Marks.{mark, marks};
 ghost use Rattle.pipe_model.specs.Moments.{barrier_at, moments_of, noted_hosts};
 ghost use Rattle.pipe_model.specs.Order.{IsRising, IsCausal, AreLogsOrdered, AreStampsCausal};
 ghost use Rattle.pipe_model.specs.Recalls.{got_recall, recalled_in_time};
-ghost use Rattle.pipe_model.specs.Run.{IsHistory, IsNodeHistory};
-ghost use Rattle.pipe_model.specs.Sender.{sender_calls};
+ghost use Rattle.pipe_model.specs.Run.{IsHistory, IsNodeHistory, IsNodeStep};
+ghost use Rattle.pipe_model.specs.Sender.{accepted_stamp, sender_calls};
 
 /// Whatever one node is handed, each of its logs rises strictly by timestamp and sender.
 pub fn logs_of_a_node_rise()
@@ -118,4 +118,11 @@ pub fn recalled_messages_are_not_logged()
         → recalled_in_time graph node key own ≡ true → has_logged key own ≡ false }
     ensures in_time { (graph : Graph) (node : ℕ) (own : List Record) (key : Key) → got_recall graph node key own ≡ true
         → barrier_at Commit graph node own ≤ key.ts.0 → recalled_in_time graph node key own ≡ true }
+{}
+
+/// Whatever one node is handed, a stamp stands only in a record that was not refused. So a scattering begins wherever there is
+/// one.
+pub fn stamps_are_accepted()
+    ensures { (graph : Graph) (node : ℕ) (own : List Record) (r : Record) → IsNodeStep graph node own r
+        → accepted_stamp r.step ≡ r.step.stamped }
 {}

@@ -18,12 +18,19 @@ pub struct Place {
     pub at: usize,
 }
 
-/// Where a place of the whole list is. The blocks' counts lead to it, and the last block is looked at first.
+/// Where a place of the whole list is. The first block is looked at first, since nearly all that is taken stands there, and
+/// then the last one. Between them the blocks' counts lead to it.
 pub fn find<T>(blocks: &Blocks<T>, len: usize, place: usize) -> Place
     requires len { len ≡ length (joined blocks.now.items) }
     requires within { place < len }
     ensures { IsPlace blocks.now.items place result }
 {
+    if place < blocks[0].len() {
+        return Place {
+            block: 0,
+            at: place,
+        };
+    }
     let last = blocks.len() - 1;
     let before = len - blocks[last].len();
     if place >= before {

@@ -2,6 +2,7 @@
 use Rattle.std.proofs.Common.{◌≡◌, ◌≢◌, ℕ, ◌+◌, zero, suc, replicate, set, below_more, get_or-set_same, get_or-set_other, ◌<◌, ◌≤◌, ◌||◌, ◌==◌, not, Bool, true, false, List, [], ◌∷◌, length, get_or, take, drop, map, filter, refl, sym, ap, ap₂, arith, ◌∙◌, if◌then◌else◌}
 use Rattle.std.specs.Prelude.{zip}
 use Rattle.std.specs.List.{list_any}
+use Rattle.std.proofs.lemmas.Bool.{or_right}
 use Rattle.std.proofs.lemmas.Bool.Decides.{nat_tests}
 use Rattle.std.proofs.lemmas.List.{get_or_default}
 use Rattle.pipe_base.specs.declared.name.HostId.{HostId}
@@ -23,13 +24,9 @@ pub marked_by : (test f : HostId × List ℕ → Bool) (ds : List (HostId × Lis
 marked_by test f [] = refl
 marked_by test f (d ∷ ds) = ap (λ (bs : List Bool). (f d || test d) ∷ bs) (marked_by test f ds)
 
-open_more : (b : Bool) (d : HostId × List ℕ) (xs ys : List (HostId × List ℕ)) → xs ≡ ys → (if b then xs else d ∷ xs) ≡ (if not b then d ∷ ys else ys)
-open_more true d xs ys is = is
-open_more false d xs ys is = ap (λ (ds : List (HostId × List ℕ)). d ∷ ds) is
-
 pub open_by : (f : HostId × List ℕ → Bool) (ds : List (HostId × List ℕ)) → open_dests ds (map f ds) ≡ filter (λ d. not (f d)) ds
 open_by f [] = refl
-open_by f (d ∷ ds) = open_more (f d) d (open_dests ds (map f ds)) (filter (λ e. not (f e)) ds) (open_by f ds)
+open_by f (d ∷ ds) = let rest = open_by f ds in grind (arith, nat_tests, rest)
 
 -- a scattering begins without marks
 pub no_marks_yet : (n : ℕ) (ds : List (HostId × List ℕ)) → length ds ≤ n → take (length ds) (replicate n false) ≡ map (λ d. false) ds
@@ -37,15 +34,11 @@ no_marks_yet n [] le = refl
 no_marks_yet zero (d ∷ ds) le = absurd (omega arith)
 no_marks_yet (suc n) (d ∷ ds) le = ap (λ (bs : List Bool). false ∷ bs) (no_marks_yet n ds (omega arith))
 
-if_same : (b : Bool) (d : HostId × List ℕ) (xs ys : List (HostId × List ℕ)) → xs ≡ ys → (if b then xs else d ∷ xs) ≡ (if b then ys else d ∷ ys)
-if_same true d xs ys is = is
-if_same false d xs ys is = ap (λ (ds : List (HostId × List ℕ)). d ∷ ds) is
-
 -- marks past the receivers are not looked at
 pub open_short : (ds : List (HostId × List ℕ)) (ms : List Bool) → open_dests ds (take (length ds) ms) ≡ open_dests ds ms
 open_short [] ms = refl
 open_short (d ∷ ds) [] = refl
-open_short (d ∷ ds) (m ∷ ms) = if_same m d (open_dests ds (take (length ds) ms)) (open_dests ds ms) (open_short ds ms)
+open_short (d ∷ ds) (m ∷ ms) = let rest = open_short ds ms in grind (arith, nat_tests, rest)
 
 -- one receiver after the other
 pub open_skip : (ds : List (HostId × List ℕ)) (ms : List Bool) (k : ℕ) → k < length ds → k < length ms → get_or ms k false ≡ true
@@ -61,14 +54,6 @@ open_here [] ms k d within marked is here = absurd (omega arith)
 open_here (e ∷ ds) [] k d within marked is here = absurd (omega arith)
 open_here (e ∷ ds) (m ∷ ms) zero d within marked is here = rw (is, here) refl
 open_here (e ∷ ds) (m ∷ ms) (suc k) d within marked is here = open_here ds ms k d (omega arith) (omega arith) is here
-
-or_true : (b : Bool) → (b || true) ≡ true
-or_true true = refl
-or_true false = refl
-
-or_false : (b : Bool) → (b || false) ≡ b
-or_false true = refl
-or_false false = refl
 
 -- another host
 pub other_host : (a b : ℕ) → a ≢ b → (a == b) ≡ false
@@ -86,7 +71,7 @@ mark_here test ds start marks at e within room done is passes k d below =
     (λ j lt c. let ne : j ≢ at = omega arith in rw get_or-set_other (done j c lt))
     (λ c.
     let here : test (get_or ds at c) ≡ true = ap test (get_or_default ds at c e within ∙ sym is) ∙ passes in
-    get_or-set_same marks at true false room ∙ sym (rw here (or_true (get_or start at false)))) k below d
+    get_or-set_same marks at true false room ∙ sym (or_right (get_or start at false) (test (get_or ds at c)) here)) k below d
 
 pub mark_none : (test : HostId × List ℕ → Bool) (ds : List (HostId × List ℕ)) (start marks : List Bool) (at : ℕ) (e : HostId × List ℕ) → at < length ds
     → ((k : ℕ) (d : HostId × List ℕ) → k < at → get_or marks k false ≡ (get_or start k false || test (get_or ds k d)))
@@ -96,7 +81,7 @@ mark_none test ds start marks at e within done kept is fails k d below =
     below_more (AreMarked test ds start marks) at (λ j lt c. done j c lt)
     (λ c.
     let here : test (get_or ds at c) ≡ false = ap test (get_or_default ds at c e within ∙ sym is) ∙ fails in
-    kept ∙ sym (rw here (or_false (get_or start at false)))) k below d
+    grind (arith, nat_tests, kept, here)) k below d
 
 -- what is beside the receivers is a function of them
 pub any_beside : (f : HostId × List ℕ → Bool) (test : (HostId × List ℕ) × Bool → Bool) (ds : List (HostId × List ℕ))

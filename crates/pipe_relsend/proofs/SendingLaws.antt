@@ -2,6 +2,7 @@
 use Rattle.std.proofs.Common.{◌≡◌, ℕ, ◌<◌, ◌-◌, ◌||◌, ◌==◌, not, Bool, true, false, List, [], ◌∷◌, ◌++◌, length, take, map, filter, Option, None, Some, refl, sym, ap, ap₂, arith, ◌∙◌, if◌then◌else◌}
 use Rattle.std.specs.Prelude.{flat_map}
 use Rattle.std.specs.List.{All, list_any}
+use Rattle.std.proofs.lemmas.Bool.{or_right}
 use Rattle.std.proofs.lemmas.Bool.Decides.{nat_tests}
 use Rattle.std.proofs.lemmas.List.{map-append, length-append, length-map}
 use Rattle.std.proofs.Math.Seq.{take-append_seam}
@@ -22,7 +23,7 @@ use Rattle.pipe_relsend.specs.Pending.{Pending, again_to, is_open, owed, started
 use Rattle.pipe_relsend.specs.Sending.{KnowsAll, Stands, after_ack, after_recall_ack, answered, before, first_or, has_answered, kept_of, noted}
 use Rattle.pipe_relsend.specs.State.{after_answer, after_note, where_open}
 use Rattle.pipe_relsend.proofs.MarkLaws.{open_by}
-use Rattle.pipe_relsend.proofs.KeptLaws.{answer_by, begins_kept, begun_open, call_of, if_false, if_true, is_left, kept_other, left_is, not_begun, note_by, open_none, open_some, settled_gone}
+use Rattle.pipe_relsend.proofs.KeptLaws.{answer_by, begins_kept, begun_open, call_of, is_left, kept_other, left_is, not_begun, note_by, open_none, open_some, settled_gone}
 
 abbrev Dest : Type 0
 Dest = HostId × List ℕ
@@ -84,38 +85,19 @@ stands_unbegun calls kept s stands some =
 abbrev kept_among : List SenderCall → List Scattering → List Pending
 kept_among calls ss = map (kept_of calls) (filter (is_left calls) ss)
 
-among_by : (f : Scattering → Pending) (b : Bool) (s : Scattering) (ss : List Scattering)
-    → map f (if b then s ∷ ss else ss) ≡ before (if b then Some (f s) else None) (map f ss)
-among_by f true s ss = refl
-among_by f false s ss = refl
-
 among_more : (calls : List SenderCall) (s : Scattering) (ss : List Scattering) → kept_among calls (s ∷ ss) ≡ before (where_open (kept_of calls s)) (kept_among calls ss)
-among_more calls s ss =
-    among_by (kept_of calls) (is_left calls s) s (filter (is_left calls) ss)
-    ∙ ap (λ (b : Bool). before (if b then Some (kept_of calls s) else None) (kept_among calls ss)) (left_is calls s)
+among_more calls s ss = let left = left_is calls s in grind (arith, nat_tests, left)
 
 -- ---- an answer among scatterings
 
-step_here : (answer : Answer) (ts host : ℕ) (p q : Pending) (left rest : List Pending) (o : Bool) → is_open p ≡ o → (p.ts.0 == ts) ≡ true
+step_here : (answer : Answer) (ts host : ℕ) (p q : Pending) (left rest : List Pending) → (p.ts.0 == ts) ≡ true
     → (is_open p ≡ true → after_answer answer host p ≡ where_open q) → (is_open p ≡ false → is_open q ≡ false) → answered answer ts host rest ≡ rest → left ≡ rest
     → before (where_open q) left ≡ answered answer ts host (before (where_open p) rest)
-step_here answer ts host p q left rest true opened is moves stays same lefts =
-    let first : before (where_open p) rest ≡ p ∷ rest = ap (λ (o : Option Pending). before o rest) (open_some p opened) in
-    ap₂ {A = Option Pending} {B = List Pending} {C = List Pending} (λ o ps. before o ps) (sym (moves opened)) lefts
-    ∙ sym (ap (answered answer ts host) first ∙ if_true (p.ts.0 == ts) (before (after_answer answer host p) rest) (p ∷ answered answer ts host rest) is)
-step_here answer ts host p q left rest false opened is moves stays same lefts =
-    ap (λ (o : Option Pending). before o left) (open_none q (stays opened)) ∙ lefts ∙ sym same
-    ∙ sym (ap (λ (o : Option Pending). answered answer ts host (before o rest)) (open_none p opened))
+step_here answer ts host p q left rest is moves stays same lefts = grind (arith, nat_tests, is, moves, stays, same, lefts)
 
-step_other : (answer : Answer) (ts host : ℕ) (p q : Pending) (left rest : List Pending) (o : Bool) → is_open p ≡ o → (p.ts.0 == ts) ≡ false → q ≡ p → left ≡ answered answer ts host rest
+step_other : (answer : Answer) (ts host : ℕ) (p q : Pending) (left rest : List Pending) → (p.ts.0 == ts) ≡ false → q ≡ p → left ≡ answered answer ts host rest
     → before (where_open q) left ≡ answered answer ts host (before (where_open p) rest)
-step_other answer ts host p q left rest true opened is same lefts =
-    let first : before (where_open p) rest ≡ p ∷ rest = ap (λ (o : Option Pending). before o rest) (open_some p opened) in
-    ap₂ {A = Option Pending} {B = List Pending} {C = List Pending} (λ o ps. before o ps) (ap where_open same ∙ open_some p opened) lefts
-    ∙ sym (ap (answered answer ts host) first ∙ if_false (p.ts.0 == ts) (before (after_answer answer host p) rest) (p ∷ answered answer ts host rest) is)
-step_other answer ts host p q left rest false opened is same lefts =
-    ap (λ (o : Option Pending). before o left) (ap where_open same ∙ open_none p opened) ∙ lefts
-    ∙ sym (ap (λ (o : Option Pending). answered answer ts host (before o rest)) (open_none p opened))
+step_other answer ts host p q left rest is same lefts = grind (arith, nat_tests, is, same, lefts)
 
 abbrev AreOthers : ℕ → List Scattering → Type 0
 AreOthers ts ss = All (λ s. (s.ts.0 == ts) ≡ false) ss
@@ -139,23 +121,20 @@ none_here answer ts host calls (s ∷ ss) others =
     let first : (s.ts.0 == ts) ≡ false = All-head (λ (t : Scattering). (t.ts.0 == ts) ≡ false) s ss others in
     rw first (ap (λ (ps : List Pending). kept_of calls s ∷ ps) (none_here answer ts host calls ss (All-tail (λ (t : Scattering). (t.ts.0 == ts) ≡ false) s ss others)))
 
-others_above : (ts a b : ℕ) → (a == ts) ≡ true → a < b → (b == ts) ≡ false
-others_above ts a b is lt = grind (arith, nat_tests, is, lt)
-
 answer_one : (answer : Answer) (ts host : ℕ) (calls : List SenderCall) (s : Scattering) (ss : List Scattering) (b : Bool) → (s.ts.0 == ts) ≡ b → All (λ t. s.ts.0 < t.ts.0) ss
     → is_begun calls s.ts.0 ≡ true → kept_among (call_of answer ts host ∷ calls) ss ≡ answered answer ts host (kept_among calls ss)
     → before (where_open (kept_of (call_of answer ts host ∷ calls) s)) (kept_among (call_of answer ts host ∷ calls) ss)
     ≡ answered answer ts host (before (where_open (kept_of calls s)) (kept_among calls ss))
 answer_one answer ts host calls s ss true is above was rest =
-    let others = All-weaker (λ (t : Scattering). s.ts.0 < t.ts.0) (λ (t : Scattering). (t.ts.0 == ts) ≡ false) (λ (t : Scattering) lt. others_above ts s.ts.0 t.ts.0 is lt) ss above in
+    let others = All-weaker (λ (t : Scattering). s.ts.0 < t.ts.0) (λ (t : Scattering). (t.ts.0 == ts) ≡ false) (λ (t : Scattering) lt. grind (arith, nat_tests, is, lt)) ss above in
     let c = call_of answer ts host in
-    step_here answer ts host (kept_of calls s) (kept_of (c ∷ calls) s) (kept_among (c ∷ calls) ss) (kept_among calls ss) (is_open (kept_of calls s)) refl is
+    step_here answer ts host (kept_of calls s) (kept_of (c ∷ calls) s) (kept_among (c ∷ calls) ss) (kept_among calls ss) is
     (answer_by answer ts host calls s (is_recalled calls s) refl is was) (settled_gone c calls s)
     (none_here answer ts host calls (filter (is_left calls) ss) (All-filter (is_left calls) (λ (t : Scattering). (t.ts.0 == ts) ≡ false) ss others))
     (none_after answer ts host calls ss others)
 answer_one answer ts host calls s ss false is above was rest =
     let c = call_of answer ts host in
-    step_other answer ts host (kept_of calls s) (kept_of (c ∷ calls) s) (kept_among (c ∷ calls) ss) (kept_among calls ss) (is_open (kept_of calls s)) refl is
+    step_other answer ts host (kept_of calls s) (kept_of (c ∷ calls) s) (kept_among (c ∷ calls) ss) (kept_among calls ss) is
     (kept_other answer ts host calls s is) rest
 
 abbrev WereBegun : List SenderCall → List Scattering → Type 0
@@ -173,14 +152,9 @@ answer_all answer ts host calls (s ∷ ss) rising were =
 
 -- ---- noted failed hosts among scatterings
 
-note_step : (failed : List Announced) (p q : Pending) (left rest : List Pending) (o : Bool) → is_open p ≡ o → (is_open p ≡ true → after_note failed p ≡ where_open q)
+note_step : (failed : List Announced) (p q : Pending) (left rest : List Pending) → (is_open p ≡ true → after_note failed p ≡ where_open q)
     → (is_open p ≡ false → is_open q ≡ false) → left ≡ noted failed rest → before (where_open q) left ≡ noted failed (before (where_open p) rest)
-note_step failed p q left rest true opened moves stays lefts =
-    ap₂ {A = Option Pending} {B = List Pending} {C = List Pending} (λ o ps. before o ps) (sym (moves opened)) lefts
-    ∙ sym (ap (λ (o : Option Pending). noted failed (before o rest)) (open_some p opened))
-note_step failed p q left rest false opened moves stays lefts =
-    ap (λ (o : Option Pending). before o left) (open_none q (stays opened)) ∙ lefts
-    ∙ sym (ap (λ (o : Option Pending). noted failed (before o rest)) (open_none p opened))
+note_step failed p q left rest moves stays lefts = grind (arith, nat_tests, moves, stays, lefts)
 
 note_all : (failed : List Announced) (calls : List SenderCall) (ss : List Scattering) → WereBegun calls ss → KnowsAll failed calls
     → kept_among (Noted failed ∷ calls) ss ≡ noted failed (kept_among calls ss)
@@ -188,7 +162,7 @@ note_all failed calls [] were knows = refl
 note_all failed calls (s ∷ ss) were knows =
     let was = All-head (λ (t : Scattering). is_begun calls t.ts.0 ≡ true) s ss were in
     among_more (Noted failed ∷ calls) s ss
-    ∙ note_step failed (kept_of calls s) (kept_of (Noted failed ∷ calls) s) (kept_among (Noted failed ∷ calls) ss) (kept_among calls ss) (is_open (kept_of calls s)) refl
+    ∙ note_step failed (kept_of calls s) (kept_of (Noted failed ∷ calls) s) (kept_among (Noted failed ∷ calls) ss) (kept_among calls ss)
     (note_by failed calls s (is_recalled calls s) refl was knows) (settled_gone (Noted failed) calls s)
     (note_all failed calls ss (All-tail (λ (t : Scattering). is_begun calls t.ts.0 ≡ true) s ss were) knows)
     ∙ ap (noted failed) (sym (among_more calls s ss))
@@ -196,19 +170,12 @@ note_all failed calls (s ∷ ss) were knows =
 -- ---- what the sender keeps, one call on
 
 -- each scattering that was begun was begun
-same_ts : (a : ℕ) (b : Bool) → ((a == a) || b) ≡ true
-same_ts a b = let same : (a == a) ≡ true = grind (arith, nat_tests) in rw same refl
-
-or_also : (a b : Bool) → b ≡ true → (a || b) ≡ true
-or_also true b is = refl
-or_also false b is = is
-
 are_begun : (ss : List Scattering) → All (λ s. list_any (λ t. t.ts.0 == s.ts.0) ss ≡ true) ss
 are_begun [] = All-nil (λ (s : Scattering). false ≡ true)
 are_begun (x ∷ ss) =
-    All-cons (λ (s : Scattering). list_any (λ (t : Scattering). t.ts.0 == s.ts.0) (x ∷ ss) ≡ true) x ss (same_ts x.ts.0 (list_any (λ (t : Scattering). t.ts.0 == x.ts.0) ss))
+    All-cons (λ (s : Scattering). list_any (λ (t : Scattering). t.ts.0 == s.ts.0) (x ∷ ss) ≡ true) x ss (grind (arith, nat_tests))
     (All-weaker (λ (s : Scattering). list_any (λ (t : Scattering). t.ts.0 == s.ts.0) ss ≡ true) (λ (s : Scattering). list_any (λ (t : Scattering). t.ts.0 == s.ts.0) (x ∷ ss) ≡ true)
-    (λ (s : Scattering) is. or_also (x.ts.0 == s.ts.0) (list_any (λ (t : Scattering). t.ts.0 == s.ts.0) ss) is) ss (are_begun ss))
+    (λ (s : Scattering) is. or_right (x.ts.0 == s.ts.0) (list_any (λ (t : Scattering). t.ts.0 == s.ts.0) ss) is) ss (are_begun ss))
 
 pub stands_acked : (calls : List SenderCall) (kept : List Pending) (ts host : ℕ) → Stands calls kept → Stands (Acked ts host ∷ calls) (after_ack ts host kept)
 stands_acked calls kept ts host stands = record {
@@ -229,13 +196,11 @@ stands_noted calls kept failed stands knows = record {
 }
 
 -- the promise is the first timestamp, as they rise
-rising_where : (b : Bool) (s : Scattering) (ss : List Scattering) → All (λ t. s.ts.0 < t.ts.0) ss → AreRising ss → AreRising (if b then s ∷ ss else ss)
-rising_where true s ss above rest = (above, rest)
-rising_where false s ss above rest = rest
-
 rising_filter : (p : Scattering → Bool) (ss : List Scattering) → AreRising ss → AreRising (filter p ss)
 rising_filter p [] rising = tt
-rising_filter p (s ∷ ss) rising = rising_where (p s) s (filter p ss) (All-filter p (λ (t : Scattering). s.ts.0 < t.ts.0) ss rising.0) (rising_filter p ss rising.1)
+rising_filter p (s ∷ ss) rising =
+    let above = All-filter p (λ (t : Scattering). s.ts.0 < t.ts.0) ss rising.0 in
+    let rest = rising_filter p ss rising.1 in grind (arith, nat_tests, above, rest)
 
 first_least : (next : ℕ) (calls : List SenderCall) (ss : List Scattering) → AreRising ss → first_or next (map (kept_of calls) ss) ≡ least_or next ss
 first_least next calls [] rising = refl

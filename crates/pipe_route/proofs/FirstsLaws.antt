@@ -1,6 +1,6 @@
 -- The links to the nearest nodes are those that begin a shortest path.
 use Rattle.std.proofs.Common.{◌≡◌, ◌⊎◌, ℕ, ◌+◌, ◌<◌, ◌≤◌, ◌==◌, nat_lt, ◌&&◌, min, if◌then◌else◌, Bool, true, false, List, [], ◌∷◌, ◌++◌, length, filter, get_or, take, map, not, All, inl, inr, refl, sym, ap, subst, ◌∙◌, true≢false, arith}
-use Rattle.std.proofs.lemmas.Bool.{eqb-true, eq-eqb, ltb-true, lt-ltb}
+use Rattle.std.proofs.lemmas.Bool.{and_from, and_parts, eq-eqb, eqb-true, lt-ltb, ltb-true}
 use Rattle.std.proofs.lemmas.Bool.Decides.{leb_tells}
 use Rattle.std.proofs.lemmas.List.Elements.{All-more, All-weaker, All-nil}
 use Rattle.pipe_base.specs.declared.name.LinkId.{LinkId}
@@ -15,7 +15,7 @@ use Rattle.pipe_graph.proofs.ReachLaws.{AreAlike}
 use Rattle.pipe_topo.specs.Sets.{has, lacks}
 use Rattle.pipe_graph.proofs.RouteLaws.{filter_alike, outs_all}
 use Rattle.pipe_graph.proofs.Shortest.{begins_gives, begins_from, rest_few}
-use Rattle.pipe_graph.proofs.Tests.{and_parts, and_both, same_tests}
+use Rattle.pipe_graph.proofs.Tests.{same_tests}
 use Rattle.pipe_topo.specs.Walk.{far, away_of, IsDistances}
 use Rattle.pipe_route.specs.Firsts.{nearer_of, IsNearest, IsLeast, is_first}
 use Rattle.pipe_base.specs.Limits.{most_nodes}
@@ -94,8 +94,8 @@ module _ (g : Graph) (by : ℕ → Bool) (n dst nearest : ℕ) (away : List ℕ)
             let shortest = is.least (found.0 ∷ way.0) (record { known = at.known; used = at.used; begins = at.begins }, way.1) in
             omega (arith, at.away_is, way.2)
       ] in
-      and_both (by l && (away_of away (head_of g l) == nearest)) (nat_lt nearest far)
-      (and_both (by l) (away_of away (head_of g l) == nearest) is.path.0.used (eq-eqb (away_of away (head_of g l)) nearest (omega arith)))
+      and_from (by l && (away_of away (head_of g l) == nearest)) (nat_lt nearest far)
+      (and_from (by l) (away_of away (head_of g l) == nearest) is.path.0.used (eq-eqb (away_of away (head_of g l)) nearest (omega arith)))
       (lt-ltb nearest far (omega arith))
 
   pub firsts_are : filter (λ l. is_first g by away nearest l.0) (outs_of g n) ≡ firsts_of g by n dst

@@ -1,5 +1,6 @@
 -- A word is a number exactly where it is what is printed of its value.
 use Rattle.std.proofs.Common.{zero, suc, lit<, ◌≡◌, ◌==◌, ◌&&◌, ◌↔◌, ℕ, ◌<◌, ◌≤◌, Bool, true, false, List, [], ◌∷◌, length, get_or, arith, sym, ap, ◌∙◌, nat_lt, nat_le, refl, subst, if◌then◌else◌, Some, None}
+use Rattle.std.proofs.lemmas.Bool.{and_parts}
 use Rattle.std.specs.Fmt.{decimal}
 use Rattle.std.specs.Char.{is_ascii_digit, digit_value}
 use Rattle.std.specs.List.{list_all}
@@ -9,7 +10,7 @@ use Rattle.std.proofs.lemmas.Bool.Decides.{nat_tests}
 use Rattle.std.proofs.lemmas.Fmt.{decimal_is_IsNumeral, decimal_digit, first_decimal, length-decimal-le, decimal-digits_value}
 use Rattle.std.proofs.lemmas.Str.Parse.{digit_from_value, numerals_by_value, tells_digits}
 use Rattle.pipe_text.specs.Number.{is_number, number_of}
-use Rattle.pipe_text.proofs.NumberLaws.{number_digits, both}
+use Rattle.pipe_text.proofs.NumberLaws.{number_digits}
 
 digit_test : (digit : ℕ) → digit_value digit < 10 → is_ascii_digit digit ≡ true
 digit_test digit small = let range = digit_from_value digit small in grind (arith, nat_tests, range.0, range.1)
@@ -64,7 +65,7 @@ chosen false v n is = absurd cc
 number_to_decimal : (word : List ℕ) (most n : ℕ) → most < 1000000000000000 → number_of most word ≡ Some n → (word ≡ decimal n) × (n ≤ most)
 number_to_decimal word most n small is =
     let picked = chosen (is_number word && nat_le (digits_value 10 word) most) (digits_value 10 word) n is in
-    let tests = both (is_number word) (nat_le (digits_value 10 word) most) picked.0 in
+    let tests = and_parts (is_number word) (nat_le (digits_value 10 word) most) picked.0 in
     let within : digits_value 10 word ≤ most = grind (arith, nat_tests, tests.1) in
     let shape = number_shape word tests.0 in
     let printed : decimal (digits_value 10 word) ≡ word

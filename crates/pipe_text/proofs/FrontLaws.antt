@@ -4,14 +4,14 @@ use Rattle.std.specs.Char.{is_ascii_digit}
 use Rattle.std.specs.Str.Parse.{AllDigits, digits_value}
 use Rattle.std.proofs.Math.ListN.{get_or-append}
 use Rattle.std.proofs.Math.Seq.{drop-append_seam, get_or-append_seam, take-append_seam}
-use Rattle.std.proofs.lemmas.Bool.{ne_eqb}
+use Rattle.std.proofs.lemmas.Bool.{and_parts, ne_eqb, not_from_false}
 use Rattle.std.proofs.lemmas.Bool.Decides.{nat_tests}
 use Rattle.std.specs.Cmp.Derive.{both_true}
 use Rattle.std.proofs.lemmas.List.{length-append, length-take, take_all, get_or-take}
 use Rattle.std.proofs.lemmas.List.Elements.{All-from_get_or}
 use Rattle.std.proofs.lemmas.Str.Parse.{digit_at}
 use Rattle.pipe_text.specs.Number.{AreDigits, is_number, is_spelled, number_of}
-use Rattle.pipe_text.proofs.NumberLaws.{both, number_digits}
+use Rattle.pipe_text.proofs.NumberLaws.{number_digits}
 use Rattle.pipe_text.proofs.DecimalLaws.{is_number-from, number_shape, chosen}
 
 none_by : (t s : Bool) (value : ℕ) → (t ≡ true → s ≡ true → ⊥) → (if t && s then Some value else None) ≡ None
@@ -39,15 +39,11 @@ longer_than_digits most text count value are more =
 front_len : (text : List ℕ) (count : ℕ) → count ≤ length text → length (take count text) ≡ count
 front_len text count within = omega (arith, length-take count text)
 
-not_by : (t : Bool) → t ≡ false → not t ≡ true
-not_by true is = cc
-not_by false is = refl
-
 spelled_then : (t : Bool) (first count : ℕ) → (count == 1) ≡ t → (t || (nat_lt 1 count && not (first == 48))) ≡ true
     → (0 < count) × (first ≡ 48 → count ≡ 1)
 spelled_then true first count is spelled = let one : count ≡ 1 = grind (arith, nat_tests) in (omega arith, λ z. one)
 spelled_then false first count is spelled =
-    let parts = both (nat_lt 1 count) (not (first == 48)) spelled in
+    let parts = and_parts (nat_lt 1 count) (not (first == 48)) spelled in
     let more : 1 < count = grind (arith, nat_tests, parts.0) in
     (omega arith, λ z. absurd (other (first == 48) parts.1 (grind (arith, nat_tests))))
   where
@@ -60,7 +56,7 @@ spelled_from : (t : Bool) (first count : ℕ) → (count == 1) ≡ t → 0 < cou
 spelled_from true first count is some alone = refl
 spelled_from false first count is some alone =
     let more : nat_lt 1 count ≡ true = grind (arith, nat_tests) in
-    both_true more (not_by (first == 48) (ne_eqb first 48 (λ z. let one = alone z in absurd (grind (arith, nat_tests)))))
+    both_true more (not_from_false (first == 48) (ne_eqb first 48 (λ z. let one = alone z in absurd (grind (arith, nat_tests)))))
 
 -- digits that are a number
 pub digits_spell : (most : ℕ) (text : List ℕ) (count value : ℕ) → AreDigits text count value → is_spelled text count ≡ true
@@ -171,7 +167,7 @@ other_before most text word after stop count value are never other split =
 -- a number has a byte, and each is above the space
 pub number_plain : (most value : ℕ) (word : List ℕ) → number_of most word ≡ Some value → All (λ byte. 32 < byte) word × (0 < length word)
 number_plain most value word spelled =
-    let is = (both (is_number word) (nat_le (digits_value 10 word) most) (chosen _ _ _ spelled).0).0 in (
+    let is = (and_parts (is_number word) (nat_le (digits_value 10 word) most) (chosen _ _ _ spelled).0).0 in (
       All-from_get_or (λ byte. 32 < byte) word 0 (λ i within.
           let range = digit_at word i (number_digits word is).0 within in omega (arith, range.0)),
       (number_shape word is).0,

@@ -1,5 +1,6 @@
 -- Lemmas on numbers as words.
 use Rattle.std.proofs.Common.{lit<, ◌≡◌, ◌==◌, ◌&&◌, ℕ, ◌+◌, ◌-◌, ◌*◌, ◌<◌, ◌≤◌, ◌^◌, Bool, true, false, List, [], ◌∷◌, length, take, get_or, arith, sym, nat_lt, refl, subst, nat_le, if◌then◌else◌, Some, None}
+use Rattle.std.proofs.lemmas.Bool.{and_parts}
 use Rattle.std.proofs.Math.Nat.{pow-le-pow_right}
 use Rattle.std.specs.Char.{is_ascii_digit, digit_value}
 use Rattle.std.specs.List.{list_all}
@@ -10,10 +11,6 @@ use Rattle.std.proofs.lemmas.List.{length-take}
 use Rattle.pipe_text.specs.Number.{is_number, number_of}
 use Rattle.std.proofs.lemmas.Bool.Decides.{nat_tests}
 
-pub both : (s t : Bool) → (s && t) ≡ true → (s ≡ true) × (t ≡ true)
-both true t is = (refl, is)
-both false t is = absurd cc
-
 -- an ASCII digit has a value below ten, which it is 48 above
 digit_small : (digit : ℕ) → is_ascii_digit digit ≡ true → digit_value digit < 10
 digit_small digit is = grind (arith, nat_tests)
@@ -21,7 +18,7 @@ digit_small digit is = grind (arith, nat_tests)
 digits_all : (word : List ℕ) → list_all is_ascii_digit word ≡ true → AllDigits 10 word
 digits_all [] is = tt
 digits_all (digit ∷ word) is =
-    let parts = both (is_ascii_digit digit) (list_all is_ascii_digit word) is in
+    let parts = and_parts (is_ascii_digit digit) (list_all is_ascii_digit word) is in
     (digit_small digit parts.0, digits_all word parts.1)
 
 no_digits : (word : List ℕ) → (length word == 0) ≡ true → AllDigits 10 word
@@ -36,8 +33,8 @@ number_parts true first rest is_zero none =
     let few : length rest ≡ 0 = grind (arith, nat_tests) in
     ((digit_small first (subst (λ (digit : ℕ). is_ascii_digit digit ≡ true) (sym zero) refl), no_digits rest none), omega arith)
 number_parts false first rest is_zero all =
-    let parts = both (is_ascii_digit first) (nat_lt (length rest) 15 && list_all is_ascii_digit rest) all in
-    let more = both (nat_lt (length rest) 15) (list_all is_ascii_digit rest) parts.1 in
+    let parts = and_parts (is_ascii_digit first) (nat_lt (length rest) 15 && list_all is_ascii_digit rest) all in
+    let more = and_parts (nat_lt (length rest) 15) (list_all is_ascii_digit rest) parts.1 in
     let few : length rest < 15 = grind (arith, nat_tests, more.0) in
     ((digit_small first parts.0, digits_all rest more.1), omega arith)
 
@@ -76,6 +73,6 @@ number_within most word = pick (is_number word && nat_le (digits_value 10 word) 
   where
     pick : (t : Bool) → (is_number word && nat_le (digits_value 10 word) most) ≡ t → IfSome (if t then Some (digits_value 10 word) else None) (λ n. n ≤ most)
     pick true is =
-        let below = (both (is_number word) (nat_le (digits_value 10 word) most) is).1 in
+        let below = (and_parts (is_number word) (nat_le (digits_value 10 word) most) is).1 in
         grind (arith, nat_tests, below)
     pick false is = tt

@@ -42,7 +42,8 @@ fn read_plain_line<'a>(
     text: &'a [u8],
 ) -> Result<Option<&'a [u8]>, NoMemory>
     requires { words.old.items ≡ [] }
-    ensures { IfOk result (λ found. IfSome found (λ rest. IsLineRead text.now rest.now (map (λ word. word.now) words.new.items))) }
+    ensures { IfOk result (λ found. IfSome found
+        (λ rest. IsLineRead text.now rest.now (map (λ word. word.now) words.new.items))) }
 {
     let mut rest = text;
     'words: while let Some((word, stop, after)) = cut_word(rest) {
@@ -58,7 +59,8 @@ fn read_plain_line<'a>(
 
 // Appends a word, unless it is empty.
 fn add_word<'a>(words: &mut Vec<&'a [u8]>, word: &'a [u8]) -> Result<(), NoMemory>
-    ensures { OnOk result (map (λ word. word.now) words.new.items ≡ map (λ word. word.now) words.old.items ++ word_before word.now []) }
+    ensures { OnOk result (map (λ word. word.now) words.new.items ≡ map (λ word. word.now) words.old.items
+        ++ word_before word.now []) }
 {
     if !word.is_empty() {
         words.push(word)?;
@@ -68,7 +70,8 @@ fn add_word<'a>(words: &mut Vec<&'a [u8]>, word: &'a [u8]) -> Result<(), NoMemor
 
 /// The bytes above the space, the first byte that is not, and what comes after it. None where all bytes are above the space.
 pub fn cut_word(text: &[u8]) -> Option<(&[u8], u8, &[u8])>
-    ensures some { IfSome result (λ cut. (text.now ≡ cut.0.now ++ cut.1 ∷ cut.2.now) × All (λ byte. 32 < byte) cut.0.now) }
+    ensures some { IfSome result
+        (λ cut. (text.now ≡ cut.0.now ++ cut.1 ∷ cut.2.now) × All (λ byte. 32 < byte) cut.0.now) }
     ensures stop { IfSome result (λ cut. cut.1 ≤ 32) }
     ensures none { IfNone result (All (λ byte. 32 < byte) text.now) }
 {

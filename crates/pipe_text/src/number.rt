@@ -8,7 +8,8 @@ const MOST_DIGITS: usize = 15;
 
 /// A word is a number of at most 15 digits exactly where it is what is printed of its value.
 pub fn numbers_are_as_printed()
-    ensures { (word : List ℕ) (most n : ℕ) → most < 1000000000000000 → (number_of most word ≡ Some n) ↔ ((word ≡ decimal n) × (n ≤ most)) }
+    ensures { (word : List ℕ) (most n : ℕ) → most < 1000000000000000
+        → (number_of most word ≡ Some n) ↔ ((word ≡ decimal n) × (n ≤ most)) }
 {}
 
 /// The number that a word spells: `0`, or at most 15 digits without a leading zero. None where it spells none, or one
@@ -25,8 +26,10 @@ pub fn read_number(word: &[u8], most: u64) -> Option<u64>
 /// The number that the front of a text spells, up to the first `stop`, and the text after that. None where it spells none,
 /// or one above `most`: where the stop is no digit, no front of the text up to a stop is a number then.
 pub fn number_before(text: &[u8], stop: u8, most: u64) -> Option<(u64, &[u8])>
-    ensures some { IfSome result (λ p. (word : List ℕ) × (text.now ≡ word ++ stop ∷ p.1.now) × (number_of most word ≡ Some p.0)) }
-    ensures none { IfNone result ((word after : List ℕ) → is_ascii_digit stop ≡ false → text.now ≡ word ++ stop ∷ after → number_of most word ≡ None) }
+    ensures some { IfSome result
+        (λ p. (word : List ℕ) × (text.now ≡ word ++ stop ∷ p.1.now) × (number_of most word ≡ Some p.0)) }
+    ensures none { IfNone result ((word after : List ℕ) → is_ascii_digit stop ≡ false → text.now ≡ word ++ stop ∷ after
+        → number_of most word ≡ None) }
 {
     let (value, count) = front_number(text, most)?;
     let (_, rest) = text.split_at(count);
@@ -43,7 +46,8 @@ fn front_number(text: &[u8], most: u64) -> Option<(u64, usize)>
     ensures digits { IfSome result (λ p. AreDigits text.now p.1 p.0) }
     ensures longest { IfSome result (λ p. p.1 < length text.now → number_of most text.now ≡ None) }
     ensures none { IfNone result (number_of most text.now ≡ None) }
-    ensures before { IfNone result ((word after : List ℕ) (stop : ℕ) → is_ascii_digit stop ≡ false → text.now ≡ word ++ stop ∷ after → number_of most word ≡ None) }
+    ensures before { IfNone result ((word after : List ℕ) (stop : ℕ) → is_ascii_digit stop ≡ false
+        → text.now ≡ word ++ stop ∷ after → number_of most word ≡ None) }
 {
     let (value, count) = leading_digits(text);
     if !is_spelled(text, count) {

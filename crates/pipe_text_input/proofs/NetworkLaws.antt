@@ -7,6 +7,7 @@ use Rattle.pipe_model.specs.declared.event.Event.{Event}
 use Rattle.pipe_text.specs.declared.kind.LineKind.{LineKind}
 use Rattle.pipe_topo.specs.Plan.{graph_of}
 use Rattle.pipe_topo.proofs.FaultLaws.{no_fault_joins}
+use Rattle.pipe_topo.proofs.FedLaws.{no_fault_fed}
 use Rattle.pipe_topo.proofs.LinkLaws.{plan_is_graph}
 use Rattle.pipe_text_plan.specs.declared.fault.PlanFault.{PlanFault}
 use Rattle.pipe_text_plan.specs.Counted.{lines_read}
@@ -24,10 +25,13 @@ scheduled_right : (described : Described) (events : Result (List Event) (ℕ × 
     → IfOk events (All (IsOfGraph (graph_of described.plan))) → IfOk (scheduled described events) HasNetwork
 scheduled_right described (Err bad) right known = tt
 scheduled_right described (Ok events) right known = record {
-  small = right.0;
-  faultless = right.1;
-  graph = plan_is_graph described.plan right.0;
-  joined = no_fault_joins described.plan right.0 right.1;
+  small = right.plan;
+  faultless = right.faultless;
+  names = right.names;
+  range = right.range;
+  some = (no_fault_fed described.plan right.plan right.faultless).some;
+  graph = plan_is_graph described.plan right.plan;
+  joined = no_fault_joins described.plan right.plan right.faultless;
   known = known;
 }
 

@@ -30,7 +30,8 @@ pub fn read_input(alloc: Global, bytes: &[u8]) -> Result<Input, InputFault>
 fn read_parts(alloc: Global, parts: &Parts<'_>) -> Result<Input, InputFault>
     requires { parts.now.line + length parts.now.rest.now ≤ most_bytes + 2 }
     ensures ok { IfOk result (IsRead (divided (Some (division_view parts.now)))) }
-    ensures fault { IfErr result (λ fault. fault ≢ InputFault.NoMemory → divided (Some (division_view parts.now)) ≡ Err fault) }
+    ensures fault { IfErr result
+        (λ fault. fault ≢ InputFault.NoMemory → divided (Some (division_view parts.now)) ≡ Err fault) }
 {
     if let Some(count) = lines_above(parts.rest, EVENT_LIMIT) {
         return Err(InputFault::TooManyEvents { count });
@@ -47,7 +48,8 @@ fn read_events(alloc: Global, parts: &Parts<'_>, input: PlanInput) -> Result<Inp
     requires part { parts.now.line + length parts.now.rest.now ≤ most_bytes + 2 }
     requires input { IsInput (described_by (division_view parts.now)) input }
     ensures ok { IfOk result (IsRead (planned (division_view parts.now) (described_by (division_view parts.now)))) }
-    ensures fault { IfErr result (λ fault. fault ≢ InputFault.NoMemory → planned (division_view parts.now) (described_by (division_view parts.now)) ≡ Err fault) }
+    ensures fault { IfErr result (λ fault. fault ≢ InputFault.NoMemory
+        → planned (division_view parts.now) (described_by (division_view parts.now)) ≡ Err fault) }
 {
     let PlanInput {
         names,

@@ -38,7 +38,8 @@ fn print_host(
     host: u16,
     log: &Log<'_>,
 ) -> Result<(), NoMemory>
-    ensures { OnOk result ((graph : Graph) (past : List Record) → AreLogsOf graph past host log.now → out.new.items ≡ out.old.items ++ host_text names.now graph past host) }
+    ensures { OnOk result ((graph : Graph) (past : List Record) → AreLogsOf graph past host log.now
+        → out.new.items ≡ out.old.items ++ host_text names.now graph past host) }
 {
     print_service(out, names, host, Service::BestEffort, log.best.as_slice())?;
     print_service(out, names, host, Service::Reliable, log.reliable.as_slice())
@@ -51,7 +52,8 @@ fn print_hosts(
     all: &[Log<'_>],
 ) -> Result<(), NoMemory>
     requires { length all.now ≡ hosts }
-    ensures { OnOk result ((graph : Graph) (past : List Record) → AreLogs graph hosts past all.now → out.new.items ≡ out.old.items ++ hosts_text names.now graph past hosts) }
+    ensures { OnOk result ((graph : Graph) (past : List Record) → AreLogs graph hosts past all.now
+        → out.new.items ≡ out.old.items ++ hosts_text names.now graph past hosts) }
 {
     'hosts: for host in 0..hosts {
         print_host(out, names, host, &all[usize::from(host)])?;

@@ -1,5 +1,6 @@
 -- Lemmas on what a document describes.
 use Rattle.std.proofs.Common.{◌≡◌, ℕ, zero, suc, ◌+◌, ◌-◌, ◌<◌, ◌≤◌, Bool, true, false, cond, nat_lt, if◌then◌else◌, Bor, option_and_then, List, [], ◌∷◌, length, map, get_or, position, Option, None, Some, Result, Ok, Err, option_map, refl, ap, sym, subst, ◌∙◌, arith, length-append}
+use Rattle.std.proofs.lemmas.Bool.{false_from_ne_true}
 use Rattle.std.specs.List.{All}
 use Rattle.std.specs.Option.{option_zip}
 use Rattle.std.specs.Str.{bytes_eq, is_utf8, IsUtf8}
@@ -22,11 +23,10 @@ use Rattle.pipe_text_plan.specs.Numbering.{numbered, numbered_unless, first_wron
 use Rattle.pipe_text_plan.specs.ReadAll.{read_onto, read_all, faulted}
 use Rattle.pipe_text_plan.specs.Switch.{switch_of, switches_of}
 use Rattle.pipe_text_plan.specs.Texts.{around_space}
-use Rattle.pipe_text_plan.proofs.StarLaws.{not_true}
 
 pub not_text : (bytes : List ℕ) → ¬ IsUtf8 bytes → document_of bytes ≡ None
 not_text bytes bad =
-    ap (λ t. cond t (parse_document bytes) None) (not_true (is_utf8 bytes) (λ is. bad (IsUtf8-from_is_utf8 bytes is)))
+    ap (λ t. cond t (parse_document bytes) None) (false_from_ne_true (is_utf8 bytes) (λ is. bad (IsUtf8-from_is_utf8 bytes is)))
 
 pub text_read : (bytes text : List ℕ) (found : Members) → text ≡ bytes → IsUtf8 bytes → parse_document text ≡ Some found → document_of bytes ≡ Some found
 text_read bytes text found is good read =
@@ -113,7 +113,7 @@ read_all_size read [] all is = let none : [] ≡ all = cc in sym (ap length none
 read_all_size read (item ∷ items) all is = size_onto (length items) (read item) (read_all read items) (read_all_size read items) all is
 
 -- without a fault, all are read
-read_by : {B : Type 0} (fault : ℕ → PlanFault) (read : Result (List B) ℕ) (all : List B) → faulted fault read ≡ Ok all → read ≡ Ok all
+pub read_by : {B : Type 0} (fault : ℕ → PlanFault) (read : Result (List B) ℕ) (all : List B) → faulted fault read ≡ Ok all → read ≡ Ok all
 read_by fault (Err at) all is = absurd cc
 read_by fault (Ok read) all is = cc
 

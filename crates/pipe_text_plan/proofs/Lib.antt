@@ -6,5 +6,7 @@ pub mod KeyLaws
 pub mod StarLaws
 pub mod NameLaws
 pub mod DescribeLaws
+pub mod GivenLaws
+pub mod RangeLaws
 pub mod PlanLaws
 pub mod CountLaws

@@ -1,5 +1,6 @@
 -- Lemmas on the numbers of names.
 use Rattle.std.proofs.Common.{◌≡◌, ℕ, zero, suc, ◌+◌, ◌<◌, ◌≤◌, ◌==◌, nat_lt, Bool, true, false, not, ◌||◌, if◌then◌else◌, List, [], ◌∷◌, ◌++◌, length, take, get_or, map, All, true≢false, None, Err, Ok, refl, ap, sym, subst, ◌∙◌, arith}
+use Rattle.std.proofs.lemmas.Bool.{and_parts}
 use Rattle.std.specs.Char.{is_ascii_digit}
 use Rattle.std.specs.List.{list_any, list_all}
 use Rattle.std.specs.Str.{bytes_eq}
@@ -8,7 +9,6 @@ use Rattle.std.proofs.lemmas.List.Elements.{All-nil, All-push}
 use Rattle.std.proofs.lemmas.List.{take_more, take_all, length_push}
 use Rattle.pipe_topo.specs.First.{first_below}
 use Rattle.pipe_topo.proofs.FirstLaws.{first_more, first_at}
-use Rattle.pipe_text.proofs.NumberLaws.{both}
 use Rattle.pipe_topo.specs.NodeNames.{has_dot}
 use Rattle.pipe_text_plan.specs.Name.{is_letter, is_name_byte, is_name}
 use Rattle.pipe_text_plan.specs.Numbering.{is_wrong, numbered, numbered_unless}
@@ -34,14 +34,14 @@ byte_dotless byte is = pick (byte == 46) refl
 bytes_dotless : (bytes : List ℕ) → list_all is_name_byte bytes ≡ true → has_dot bytes ≡ false
 bytes_dotless [] are = refl
 bytes_dotless (byte ∷ bytes) are =
-    let parts = both (is_name_byte byte) (list_all is_name_byte bytes) are in λ i. byte_dotless byte parts.0 i || bytes_dotless bytes parts.1 i
+    let parts = and_parts (is_name_byte byte) (list_all is_name_byte bytes) are in λ i. byte_dotless byte parts.0 i || bytes_dotless bytes parts.1 i
 
 name_dotless : (name : List ℕ) → is_name name ≡ true → has_dot name ≡ false
 name_dotless [] is = absurd cc
 name_dotless (first ∷ rest) is =
-    let letter = both (is_letter first) _ is in
-    let short = both (nat_lt (length rest) 16) _ letter.1 in
-    let bytes = both (list_all is_name_byte rest) _ short.1 in
+    let letter = and_parts (is_letter first) _ is in
+    let short = and_parts (nat_lt (length rest) 16) _ letter.1 in
+    let bytes = and_parts (list_all is_name_byte rest) _ short.1 in
     let begins : is_name_byte first ≡ true = ap (λ (t : Bool). t || (is_ascii_digit first || ((first == 45) || (first == 95)))) letter.0 in
     λ i. byte_dotless first begins i || bytes_dotless rest bytes.0 i
 

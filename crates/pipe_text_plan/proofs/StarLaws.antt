@@ -1,5 +1,6 @@
 -- Lemmas on stars.
 use Rattle.std.proofs.Common.{◌≡◌, ℕ, ◌+◌, ◌<◌, ◌≤◌, ◌^◌, Bool, true, false, not, if◌then◌else◌, List, [], ◌∷◌, ◌++◌, length, drop, map, All, ◌==◌, ◌||◌, None, Result, Ok, Err, refl, ap, sym, ◌∙◌, arith, codes}
+use Rattle.std.proofs.lemmas.Bool.{false_from_ne_true}
 use Rattle.std.specs.List.{list_any, range_with_len}
 use Rattle.std.specs.Result.{IfErr}
 use Rattle.std.specs.Str.{bytes_eq}
@@ -39,14 +40,10 @@ star_long (star ∷ hosts ∷ []) many = absurd (omega arith)
 star_long (star ∷ hosts ∷ patience ∷ []) many = absurd (omega arith)
 star_long (star ∷ hosts ∷ patience ∷ another ∷ words) many = refl
 
-pub not_true : (t : Bool) → (t ≡ true → ⊥) → t ≡ false
-not_true true never = absurd (never refl)
-not_true false never = refl
-
 -- the names of different hosts differ
 host_differs : (m n : ℕ) → m < n → n < 2 ^ 64 → bytes_eq (host_name n) (host_name m) ≡ false
 host_differs m n below small =
-    not_true (bytes_eq (host_name n) (host_name m))
+    false_from_ne_true (bytes_eq (host_name n) (host_name m))
     (λ same.
     let names : host_name n ≡ host_name m = (bytes_eq-Decides (host_name n) (host_name m)).0 same in
     let numbers : n ≡ m = decimal_injective n m small (omega arith) (ap (drop 1) names) in

@@ -1,5 +1,6 @@
 -- Lemmas on the first word of a line.
 use Rattle.std.proofs.Common.{◌≡◌, ◌==◌, not, ℕ, zero, suc, ◌+◌, ◌<◌, ◌≤◌, Bool, true, false, cond, List, [], ◌∷◌, length, take, drop, get_or, filter, slice_get, None, Some, refl, ap, subst, sym, ◌∙◌, arith, length-drop}
+use Rattle.std.proofs.lemmas.Bool.{not-false, not-true}
 use Rattle.std.specs.List.{position, position_or_len, slice_split, All}
 use Rattle.std.proofs.lemmas.List.Splits.{slice_split-cons_yes, slice_split_first, slice_split_none}
 use Rattle.std.proofs.lemmas.List.Quantifiers.{position-Some}
@@ -10,14 +11,6 @@ use Rattle.pipe_text.specs.Words.{is_blank, words_of}
 
 abbrev is_some_word : List ℕ → Bool
 is_some_word word = not (length word == 0)
-
-not_not : (t : Bool) → not t ≡ false → t ≡ true
-not_not true is = refl
-not_not false is = absurd cc
-
-not_yes : (t : Bool) → not t ≡ true → t ≡ false
-not_yes true is = absurd cc
-not_yes false is = refl
 
 -- a blank in front changes no word
 words_skip : (byte : ℕ) (line : List ℕ) → is_blank byte ≡ true → words_of (byte ∷ line) ≡ words_of line
@@ -35,9 +28,9 @@ pub words_start : (line : List ℕ) (n : ℕ) → position (λ byte. not (is_bla
     → (words_of line ≡ words_of (drop n line)) × (n < length line) × (is_blank (get_or line n 0) ≡ false)
 words_start line n found =
     let at = position-Some (λ byte. not (is_blank byte)) line n 0 found in (
-      words_drop line n (omega (arith, at.0)) (λ k below. not_not (is_blank (get_or line k 0)) (at.2 k below)),
+      words_drop line n (omega (arith, at.0)) (λ k below. not-false (is_blank (get_or line k 0)) (at.2 k below)),
       at.0,
-      not_yes (is_blank (get_or line n 0)) at.1,
+      not-true (is_blank (get_or line n 0)) at.1,
     )
 
 drop_whole : (line : List ℕ) → drop (length line) line ≡ []
@@ -49,7 +42,7 @@ pub words_none : (line : List ℕ) → position (λ byte. not (is_blank byte)) l
 words_none line none =
     let far : length line ≤ position_or_len (λ byte. not (is_blank byte)) line = grind (arith, nat_tests) in
     words_drop line (length line) (omega arith)
-    (λ k below. not_not (is_blank (get_or line k 0)) (fails_before_first (λ byte. not (is_blank byte)) line k 0 (omega arith)))
+    (λ k below. not-false (is_blank (get_or line k 0)) (fails_before_first (λ byte. not (is_blank byte)) line k 0 (omega arith)))
     ∙ ap words_of (drop_whole line)
 
 kept : (word : List ℕ) (words : List (List ℕ)) → 0 < length word → slice_get (filter is_some_word (word ∷ words)) 0 ≡ Some word

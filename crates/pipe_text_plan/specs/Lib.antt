@@ -5,6 +5,7 @@ pub mod Name
 pub mod Keys
 pub mod Texts
 pub mod ReadAll
+pub mod Refused
 pub mod Switch
 pub mod Cable
 pub mod Numbering
@@ -13,3 +14,4 @@ pub mod Described
 pub mod FaultWords
 pub mod Views
 pub mod Input
+pub mod HasNames

@@ -7,13 +7,17 @@ use Rattle.pipe_text_plan.specs.Name.{is_name}
 use Rattle.pipe_text_plan.specs.ReadAll.{read_all, faulted}
 use Rattle.pipe_text_plan.specs.Texts.{around_space}
 
--- a level from 1 to 15
+-- the highest level
+abbrev pub most_level : ℕ
+most_level = 15
+
+-- a level from 1 on
 abbrev pub level_in : ℕ → Option ℕ
 level_in n = if n == 0 then None else Some n
 
 -- the level that a word says
 abbrev pub level_of : List ℕ → Option ℕ
-level_of word = option_and_then level_in (number_of 15 word)
+level_of word = option_and_then level_in (number_of most_level word)
 
 -- a name with its level, where it has one
 abbrev pub with_level : List ℕ → Option ℕ → Option (List ℕ × ℕ)

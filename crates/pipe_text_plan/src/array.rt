@@ -16,7 +16,8 @@ pub fn texts_at<'a>(
     table: &'a Table,
     key: &str,
 ) -> Result<Option<Vec<&'a str>>, NoMemory>
-    ensures { IfOk result (λ found. option_map (λ texts. map (λ text. text.now) texts.items) found ≡ texts_at key.now (table_view table.now)) }
+    ensures { IfOk result (λ found. option_map (λ texts. map (λ text. text.now) texts.items) found
+        ≡ texts_at key.now (table_view table.now)) }
 {
     match array_at(table, key) {
         Some(array) => item_texts(alloc, array),
@@ -25,7 +26,8 @@ pub fn texts_at<'a>(
 }
 
 fn array_at<'a>(table: &'a Table, key: &str) -> Option<&'a Array>
-    ensures { option_map (λ array. array_view array.now) result ≡ option_and_then as_array (get_member key.now (table_view table.now)) }
+    ensures { option_map (λ array. array_view array.now) result
+        ≡ option_and_then as_array (get_member key.now (table_view table.now)) }
 {
     match table.get(key) {
         Some(value) => value.as_array(),
@@ -34,7 +36,8 @@ fn array_at<'a>(table: &'a Table, key: &str) -> Option<&'a Array>
 }
 
 fn item_texts<'a>(alloc: Global, array: &'a Array) -> Result<Option<Vec<&'a str>>, NoMemory>
-    ensures { IfOk result (λ found. option_map (λ texts. map (λ text. text.now) texts.items) found ≡ item_texts (array_view array.now)) }
+    ensures { IfOk result (λ found. option_map (λ texts. map (λ text. text.now) texts.items) found
+        ≡ item_texts (array_view array.now)) }
 {
     let mut texts = Vec::new(alloc);
     'items: for value in array {

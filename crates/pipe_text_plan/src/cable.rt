@@ -1,7 +1,7 @@
 // The texts of cables.
-ghost use Rattle.std.specs.Prelude.{◌≡◌, ◌≤◌, length, map, IfOk, IfErr, Ok, Err};
-ghost use Rattle.pipe_text_plan.specs.declared.fault.PlanFault.{PlanFault as Fault};
+ghost use Rattle.std.specs.Prelude.{◌≡◌, ◌≤◌, length, map, IfOk, Ok};
 ghost use Rattle.pipe_text_plan.specs.Cable.{end_of, cable_of, cables_of};
+ghost use Rattle.pipe_text_plan.specs.Refused.{RefusesLike};
 
 use crate::fault::{PlanError, PlanFault};
 use crate::space::around_space;
@@ -35,8 +35,9 @@ pub fn cables_of(
     texts: &[&str],
 ) -> Result<Vec<Cable>, PlanError>
     requires { length texts.now ≤ 32767 }
-    ensures ok { IfOk result (λ cables. cables_of hosts names.now (map (λ text. text.now) texts.now) ≡ Ok cables.items) }
-    ensures fault { IfErr result (λ error. (fault : Fault) → error ≡ PlanError.Plan fault → cables_of hosts names.now (map (λ text. text.now) texts.now) ≡ Err fault) }
+    ensures ok { IfOk result (λ cables. cables_of hosts names.now (map (λ text. text.now) texts.now)
+        ≡ Ok cables.items) }
+    ensures fault { RefusesLike result (cables_of hosts names.now (map (λ text. text.now) texts.now)) }
 {
     let mut cables = Vec::new(alloc);
     'texts: for text in texts {

@@ -1,12 +1,12 @@
 // What a document says of a plan, by its keys.
-ghost use Rattle.std.specs.Prelude.{◌≡◌, not, string_bytes, option_and_then, IfOk, IfErr, Ok, Err};
+ghost use Rattle.std.specs.Prelude.{◌≡◌, not, string_bytes, option_and_then, IfOk, Ok};
 ghost use Rattle.std.specs.BTreeMap.{keys};
 ghost use Rattle.std.specs.List.{list_any};
 ghost use Rattle.toml.specs.Data.{as_integer};
 ghost use Rattle.toml.specs.View.{table_view, view};
-ghost use Rattle.pipe_text_plan.specs.declared.fault.PlanFault.{PlanFault as Fault};
 ghost use Rattle.pipe_text_plan.specs.Described.{keyed};
 ghost use Rattle.pipe_text_plan.specs.Keys.{is_key, has_extra, patience_in, patience_at};
+ghost use Rattle.pipe_text_plan.specs.Refused.{RefusesLike};
 ghost use Rattle.pipe_text_plan.specs.Views.{document_view};
 
 use crate::array::texts_at;
@@ -26,7 +26,7 @@ pub struct Texts<'a> {
 
 pub fn texts_of<'a>(alloc: Global, table: &'a Table) -> Result<Texts<'a>, PlanError>
     ensures ok { IfOk result (λ texts. keyed (table_view table.now) ≡ Ok (document_view texts)) }
-    ensures fault { IfErr result (λ error. (fault : Fault) → error ≡ PlanError.Plan fault → keyed (table_view table.now) ≡ Err fault) }
+    ensures fault { RefusesLike result (keyed (table_view table.now)) }
 {
     if has_extra(table) {
         return Err(PlanError::Plan(PlanFault::Extra));

@@ -22,6 +22,6 @@ mod word;
 pub use count::{lines_above, lines_read};
 pub use division::{Parts, parts_of};
 pub use fault::{KeyName, PlanError, PlanFault};
-pub use laws::described_plans_have_no_fault;
+pub use laws::{described_plans_have_names, described_plans_have_no_fault};
 pub use name::is_name;
 pub use read::{PlanInput, read_plan};

@@ -1,9 +1,9 @@
 // The numbers of names.
-ghost use Rattle.std.specs.Prelude.{◌≡◌, ◌≤◌, ◌<◌, ◌+◌, false, length, map, All, IfOk, IfErr, Ok, Err};
+ghost use Rattle.std.specs.Prelude.{◌≡◌, ◌≤◌, ◌<◌, ◌+◌, false, length, map, All, IfOk, Ok};
 ghost use Rattle.pipe_topo.specs.NodeNames.{has_dot};
-ghost use Rattle.pipe_text_plan.specs.declared.fault.PlanFault.{PlanFault as Fault};
 ghost use Rattle.pipe_text_plan.specs.Described.{all_names};
 ghost use Rattle.pipe_text_plan.specs.Numbering.{numbered};
+ghost use Rattle.pipe_text_plan.specs.Refused.{RefusesLike};
 
 use crate::fault::{PlanError, PlanFault};
 use crate::name::is_name;
@@ -17,7 +17,8 @@ pub fn all_names<'a>(
     hosts: &[&'a str],
     switches: &[(&'a str, u8)],
 ) -> Result<Vec<&'a str>, NoMemory>
-    ensures { IfOk result (λ names. map (λ name. name.now) names.items ≡ all_names (map (λ host. host.now) hosts.now) (map (λ switch. (switch.0.now, switch.1)) switches.now)) }
+    ensures { IfOk result (λ names. map (λ name. name.now) names.items
+        ≡ all_names (map (λ host. host.now) hosts.now) (map (λ switch. (switch.0.now, switch.1)) switches.now)) }
 {
     let mut names = Vec::from_slice(alloc, hosts)?;
     for (name, _) in switches {
@@ -31,7 +32,7 @@ pub fn numbered(alloc: Global, all: &[&str]) -> Result<Names, PlanError>
     requires { length all.now < 65535 }
     ensures ok { IfOk result (λ names. numbered (map (λ name. name.now) all.now) ≡ Ok names) }
     ensures dotless { IfOk result (All (λ name. has_dot name ≡ false)) }
-    ensures fault { IfErr result (λ error. (fault : Fault) → error ≡ PlanError.Plan fault → numbered (map (λ name. name.now) all.now) ≡ Err fault) }
+    ensures fault { RefusesLike result (numbered (map (λ name. name.now) all.now)) }
 {
     let mut names = Names::new(alloc);
     'names: for name in all {

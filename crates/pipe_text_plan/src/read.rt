@@ -8,6 +8,7 @@ ghost use Rattle.pipe_text_plan.specs.declared.fault.PlanFault.{PlanFault as Fau
 ghost use Rattle.pipe_text_plan.specs.Described.{built, crowd, crowded, described, described_by, IsCountable, star_described, toml_described};
 ghost use Rattle.pipe_text_plan.specs.Input.{IsInput};
 ghost use Rattle.pipe_text_plan.specs.Keys.{document_of};
+ghost use Rattle.pipe_text_plan.specs.Refused.{RefusesLike};
 ghost use Rattle.pipe_text_plan.specs.Star.{star_of};
 ghost use Rattle.pipe_text_plan.specs.Views.{division_view, document_view};
 
@@ -42,8 +43,9 @@ pub struct PlanInput {
 /// Reads the topology part of an input. Its first fault is refused: the line of a star has none but its form.
 pub fn read_plan(alloc: Global, parts: &Parts<'_>) -> Result<PlanInput, PlanError>
     ensures ok { IfOk result (IsInput (described_by (division_view parts.now))) }
-    ensures fault { IfErr result (λ error. (fault : Fault) → error ≡ PlanError.Plan fault → described_by (division_view parts.now) ≡ Err fault) }
-    ensures star { parts.now.star ≡ true → IfErr result (λ error. (fault : Fault) → error ≡ PlanError.Plan fault → fault ≡ PlanFault.Star) }
+    ensures fault { RefusesLike result (described_by (division_view parts.now)) }
+    ensures star { parts.now.star ≡ true
+        → IfErr result (λ error. (fault : Fault) → error ≡ PlanError.Plan fault → fault ≡ PlanFault.Star) }
 {
     if parts.star {
         read_star(alloc, parts.topology)
@@ -54,7 +56,7 @@ pub fn read_plan(alloc: Global, parts: &Parts<'_>) -> Result<PlanInput, PlanErro
 
 fn read_star(alloc: Global, line: &[u8]) -> Result<PlanInput, PlanError>
     ensures ok { IfOk result (IsInput (star_described (star_of (words_of line.now)))) }
-    ensures fault { IfErr result (λ error. (fault : Fault) → error ≡ PlanError.Plan fault → star_described (star_of (words_of line.now)) ≡ Err fault) }
+    ensures fault { RefusesLike result (star_described (star_of (words_of line.now))) }
     ensures star { IfErr result (λ error. (fault : Fault) → error ≡ PlanError.Plan fault → fault ≡ PlanFault.Star) }
 {
     let words = words_of(alloc, line)?;
@@ -68,7 +70,7 @@ fn read_star(alloc: Global, line: &[u8]) -> Result<PlanInput, PlanError>
 
 fn read_toml(alloc: Global, bytes: &[u8]) -> Result<PlanInput, PlanError>
     ensures ok { IfOk result (IsInput (toml_described (document_of bytes.now))) }
-    ensures fault { IfErr result (λ error. (fault : Fault) → error ≡ PlanError.Plan fault → toml_described (document_of bytes.now) ≡ Err fault) }
+    ensures fault { RefusesLike result (toml_described (document_of bytes.now)) }
 {
     let table = match read_table(alloc, bytes) {
         Ok(table) => table,
@@ -83,7 +85,8 @@ fn read_toml(alloc: Global, bytes: &[u8]) -> Result<PlanInput, PlanError>
 
 fn read_table(alloc: Global, bytes: &[u8]) -> Result<Table, PlanError>
     ensures ok { IfOk result (λ table. document_of bytes.now ≡ Some (table_view table)) }
-    ensures fault { IfErr result (λ error. (fault : Fault) → error ≡ PlanError.Plan fault → (fault ≡ PlanFault.NotToml) × (document_of bytes.now ≡ None)) }
+    ensures fault { IfErr result (λ error. (fault : Fault) → error ≡ PlanError.Plan fault
+        → (fault ≡ PlanFault.NotToml) × (document_of bytes.now ≡ None)) }
 {
     let Ok(text) = std::str::from_utf8(bytes) else {
         return Err(PlanError::Plan(PlanFault::NotToml));
@@ -97,7 +100,7 @@ fn read_table(alloc: Global, bytes: &[u8]) -> Result<Table, PlanError>
 
 fn describe(alloc: Global, texts: &Texts<'_>) -> Result<PlanInput, PlanError>
     ensures ok { IfOk result (IsInput (described (document_view texts.now))) }
-    ensures fault { IfErr result (λ error. (fault : Fault) → error ≡ PlanError.Plan fault → described (document_view texts.now) ≡ Err fault) }
+    ensures fault { RefusesLike result (described (document_view texts.now)) }
 {
     if let Some(fault) = crowded(texts) {
         return Err(PlanError::Plan(PlanFault::Topo(fault)));
@@ -168,7 +171,7 @@ fn build(alloc: Global, names: Names, plan: Plan) -> Result<PlanInput, PlanError
     requires countable_levels { length plan.levels < 2 ^ 32 }
     requires countable_cables { length plan.cables < 2 ^ 32 }
     ensures ok { IfOk result (IsInput (built names plan)) }
-    ensures fault { IfErr result (λ error. (fault : Fault) → error ≡ PlanError.Plan fault → built names plan ≡ Err fault) }
+    ensures fault { RefusesLike result (built names plan) }
 {
     match Topology::build(alloc, &plan) {
         Ok(topology) => Ok(PlanInput {

@@ -1,6 +1,6 @@
 // The texts of switches.
-ghost use Rattle.std.specs.Prelude.{◌≡◌, ◌≤◌, length, map, option_map, IfOk, IfErr, Ok, Err};
-ghost use Rattle.pipe_text_plan.specs.declared.fault.PlanFault.{PlanFault as Fault};
+ghost use Rattle.std.specs.Prelude.{◌≡◌, ◌≤◌, length, map, option_map, IfOk, Ok};
+ghost use Rattle.pipe_text_plan.specs.Refused.{RefusesLike};
 ghost use Rattle.pipe_text_plan.specs.Switch.{level_of, switch_of, switches_of};
 
 use crate::fault::{PlanError, PlanFault};
@@ -32,8 +32,9 @@ fn level_of(word: &str) -> Option<u8>
 // The switches' names and levels.
 pub fn switches_of<'a>(alloc: Global, texts: &[&'a str]) -> Result<Vec<(&'a str, u8)>, PlanError>
     requires { length texts.now ≤ 32767 }
-    ensures ok { IfOk result (λ switches. switches_of (map (λ text. text.now) texts.now) ≡ Ok (map (λ switch. (switch.0.now, switch.1)) switches.items)) }
-    ensures fault { IfErr result (λ error. (fault : Fault) → error ≡ PlanError.Plan fault → switches_of (map (λ text. text.now) texts.now) ≡ Err fault) }
+    ensures ok { IfOk result (λ switches. switches_of (map (λ text. text.now) texts.now)
+        ≡ Ok (map (λ switch. (switch.0.now, switch.1)) switches.items)) }
+    ensures fault { RefusesLike result (switches_of (map (λ text. text.now) texts.now)) }
 {
     let mut switches = Vec::new(alloc);
     'texts: for text in texts {

@@ -1,5 +1,6 @@
 -- Each event of a schedule can happen in the network.
 use Rattle.std.proofs.Common.{◌≡◌, ◌≢◌, ℕ, ◌+◌, ◌-◌, ◌*◌, ◌<◌, ◌≤◌, ◌==◌, nat_lt, Bool, true, false, ◌||◌, if◌then◌else◌, List, [], ◌∷◌, ◌++◌, length, drop, take, All, AllPairs, Option, Some, None, IfSome, Result, Ok, Err, refl, arith, position, bytes_eq, codes, length-append}
+use Rattle.std.proofs.lemmas.Bool.{or_parts}
 use Rattle.std.specs.Result.{IfOk}
 use Rattle.std.proofs.lemmas.Bool.Decides.{nat_tests}
 use Rattle.std.proofs.lemmas.List.Elements.{All-nil, All-cons, All-push}
@@ -151,14 +152,10 @@ failure_happens graph names verb words = pick (bytes_eq verb (codes "crash")) (b
 
 -- receivers
 
-neither : (s t : Bool) → (s || t) ≡ false → (s ≡ false) × (t ≡ false)
-neither true t is = absurd cc
-neither false t is = (refl, is)
-
 not_named : (host : ℕ) (dests : List (HostId × List ℕ)) → is_named host dests ≡ false → All (λ d. d.0.0 ≢ host) dests
 not_named host [] is = All-nil (λ d. d.0.0 ≢ host)
 not_named host (d ∷ dests) is =
-    let parts = neither (d.0.0 == host) (is_named host dests) is in
+    let parts = or_parts (d.0.0 == host) (is_named host dests) is in
     All-cons (λ d. d.0.0 ≢ host) d dests (grind (arith, nat_tests, parts.0)) (not_named host dests parts.1)
 
 -- the host is of the network, and no receiver before

@@ -6,5 +6,6 @@ ghost use Rattle.pipe_text_schedule.specs.Schedule.{schedule_of};
 
 /// Each event of a schedule is one of the network.
 pub fn schedules_can_happen()
-    ensures { (graph : Graph) (names : List (List ℕ)) (first : ℕ) (lines : List (List ℕ)) → IfOk (schedule_of graph names first lines) (All (IsOfGraph graph)) }
+    ensures { (graph : Graph) (names : List (List ℕ)) (first : ℕ) (lines : List (List ℕ))
+        → IfOk (schedule_of graph names first lines) (All (IsOfGraph graph)) }
 {}

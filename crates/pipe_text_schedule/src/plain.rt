@@ -29,7 +29,8 @@ pub fn read_plain_line<'a>(
 
 // `LINK PLACE`
 fn read_plain_take<'a>(topology: &Topology, text: &'a [u8]) -> Option<(Event, &'a [u8])>
-    ensures event { (names : List (List ℕ)) → IfSome result (λ p. IsPlain topology.now names (codes "take") text.now p.1.now p.0) }
+    ensures event { (names : List (List ℕ))
+        → IfSome result (λ p. IsPlain topology.now names (codes "take") text.now p.1.now p.0) }
     ensures known { IfSome result (λ p. IsOfGraph topology.now p.0) }
 {
     let (link, rest) = number_before(text, b' ', LAST_LINK)?;

@@ -18,7 +18,8 @@ pub fn read_receivers(
     words: &[&[u8]],
 ) -> Result<Result<DestList, LineKind>, NoMemory>
     requires { (0 < length words.now) × (length words.now ≤ most_receivers) }
-    ensures value { IfOk result (λ read. read ≡ receivers_in topology.now names.now [] (map (λ word. word.now) words.now)) }
+    ensures value { IfOk result
+        (λ read. read ≡ receivers_in topology.now names.now [] (map (λ word. word.now) words.now)) }
     ensures known { IfOk result (λ read. IfOk read (AreReceivers topology.now)) }
 {
     let mut dests = List::new(alloc);

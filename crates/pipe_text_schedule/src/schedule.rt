@@ -47,7 +47,8 @@ pub fn read_schedule(
     requires { length text.now + first ≤ 4294967295 }
     ensures events { IfOk result (λ events. schedule_of topology.now names.now first (lines text.now) ≡ Ok events) }
     ensures known { IfOk result (All (IsOfGraph topology.now)) }
-    ensures fault { (line : ℕ) (kind : Kind) → result ≡ Err (ScheduleFault.Line line kind) → schedule_of topology.now names.now first (lines text.now) ≡ Err (line, kind) }
+    ensures fault { (line : ℕ) (kind : Kind) → result ≡ Err (ScheduleFault.Line line kind)
+        → schedule_of topology.now names.now first (lines text.now) ≡ Err (line, kind) }
 {
     let mut events = List::new(alloc);
     let mut words = Vec::new(alloc);
@@ -88,7 +89,8 @@ fn read_first_line<'a>(
     requires { 0 < length text.now }
     ensures event { IfOk result (λ p. IsFirstRead topology.now names.now text.now p.1.now p.0) }
     ensures known { IfOk result (λ p. IfSome p.0 (IsOfGraph topology.now)) }
-    ensures fault { (at : ℕ) (kind : Kind) → result ≡ Err (ScheduleFault.Line at kind) → (at ≡ line) × IsFirstBad topology.now names.now text.now kind }
+    ensures fault { (at : ℕ) (kind : Kind) → result ≡ Err (ScheduleFault.Line at kind)
+        → (at ≡ line) × IsFirstBad topology.now names.now text.now kind }
 {
     if let Some((event, rest)) = read_plain_line(names, topology, text) {
         return Ok((Some(event), rest));
@@ -108,10 +110,13 @@ fn read_line(
     words: &[&[u8]],
     line: u32,
 ) -> Result<Option<Event>, ScheduleFault>
-    ensures event { IfOk result (λ event. IfSome event (λ e. (is_skipped (map (λ word. word.now) words.now) ≡ false) × (line_event topology.now names.now (map (λ word. word.now) words.now) ≡ Ok e))) }
+    ensures event { IfOk result (λ event. IfSome event (λ e. (is_skipped (map (λ word. word.now) words.now) ≡ false)
+        × (line_event topology.now names.now (map (λ word. word.now) words.now) ≡ Ok e))) }
     ensures known { IfOk result (λ event. IfSome event (IsOfGraph topology.now)) }
     ensures skipped { IfOk result (λ event. IfNone event (is_skipped (map (λ word. word.now) words.now) ≡ true)) }
-    ensures fault { (at : ℕ) (kind : Kind) → result ≡ Err (ScheduleFault.Line at kind) → (at ≡ line) × ((is_skipped (map (λ word. word.now) words.now) ≡ false) × (line_event topology.now names.now (map (λ word. word.now) words.now) ≡ Err kind)) }
+    ensures fault { (at : ℕ) (kind : Kind) → result ≡ Err (ScheduleFault.Line at kind)
+        → (at ≡ line) × ((is_skipped (map (λ word. word.now) words.now) ≡ false)
+        × (line_event topology.now names.now (map (λ word. word.now) words.now) ≡ Err kind)) }
 {
     if is_skipped(words) {
         return Ok(None);

@@ -54,7 +54,10 @@ fn read_fields(
     receivers: &[&[u8]],
 ) -> Result<Result<Event, LineKind>, NoMemory>
     requires { (0 < length receivers.now) × (length receivers.now ≤ most_receivers) }
-    ensures event { IfOk result (λ read. read ≡ send_from (host_in topology.now names.now host.now) (service_of service.now) (reading_of topology.now now.now) (receivers_in topology.now names.now [] (map (λ word. word.now) receivers.now))) }
+    ensures event { IfOk result
+        (λ read. read ≡ send_from (host_in topology.now names.now host.now) (service_of service.now)
+        (reading_of topology.now now.now)
+        (receivers_in topology.now names.now [] (map (λ word. word.now) receivers.now))) }
     ensures known { IfOk result (λ read. IfOk read (IsOfGraph topology.now)) }
 {
     let Some(host) = host_named(names, topology, host) else {

@@ -3,30 +3,21 @@ ghost use Rattle.std.specs.Prelude.{◌≡◌, ◌++◌, [], ◌∷◌, map, OnO
 ghost use Rattle.pipe_text_trace.specs.Control.{addressed_words, announced_word, control_words, link_word, receiver_word};
 ghost use Rattle.pipe_text_trace.specs.Line.{next_words};
 
-use crate::node::{print_host, print_node};
-use crate::word::{print_number, print_word};
+use crate::word::{Appended, print_name, print_number, print_word};
 use itoa::Buffer;
-use pipe_base::{Addressed, Announced, Control, LinkId, NoMemory, To};
+use pipe_base::{Addressed, Announced, Control, LinkId, To};
 use pipe_topo::NodeNames;
 
-fn print_announced(
-    out: &mut Vec<u8>,
-    names: &NodeNames,
-    announced: Announced,
-) -> Result<(), NoMemory>
+fn print_announced(out: &mut Vec<u8>, names: &NodeNames, announced: Announced) -> Appended
     ensures { OnOk result (out.new.items ≡ out.old.items ++ next_words (announced_word names.now announced ∷ [])) }
 {
-    print_host(out, names, announced.host)?;
+    print_name(out, names, announced.host.0)?;
     out.push(b':')?;
     out.extend_from_slice(Buffer::new().format(announced.time.0).as_bytes())?;
     Ok(())
 }
 
-fn print_all_announced(
-    out: &mut Vec<u8>,
-    names: &NodeNames,
-    list: &[Announced],
-) -> Result<(), NoMemory>
+fn print_all_announced(out: &mut Vec<u8>, names: &NodeNames, list: &[Announced]) -> Appended
     ensures { OnOk result (out.new.items ≡ out.old.items ++ next_words (map (announced_word names.now) list.now)) }
 {
     'list: for entry in list {
@@ -35,7 +26,7 @@ fn print_all_announced(
     Ok(())
 }
 
-fn print_links(out: &mut Vec<u8>, links: &[LinkId]) -> Result<(), NoMemory>
+fn print_links(out: &mut Vec<u8>, links: &[LinkId]) -> Appended
     ensures { OnOk result (out.new.items ≡ out.old.items ++ next_words (map link_word links.now)) }
 {
     'links: for link in links {
@@ -44,7 +35,7 @@ fn print_links(out: &mut Vec<u8>, links: &[LinkId]) -> Result<(), NoMemory>
     Ok(())
 }
 
-fn print_control(out: &mut Vec<u8>, names: &NodeNames, control: &Control) -> Result<(), NoMemory>
+fn print_control(out: &mut Vec<u8>, names: &NodeNames, control: &Control) -> Appended
     ensures { OnOk result (out.new.items ≡ out.old.items ++ next_words (control_words names.now control.now)) }
 {
     match control {
@@ -64,7 +55,7 @@ fn print_control(out: &mut Vec<u8>, names: &NodeNames, control: &Control) -> Res
         }
         Control::Done { host, count } => {
             print_word(out, b"done")?;
-            print_host(out, names, *host)?;
+            print_name(out, names, host.0)?;
             print_number(out, *count)
         }
         Control::DropLinks { links } => {
@@ -74,27 +65,23 @@ fn print_control(out: &mut Vec<u8>, names: &NodeNames, control: &Control) -> Res
         }
         Control::Gone { node, count } => {
             print_word(out, b"gone")?;
-            print_node(out, names, *node)?;
+            print_name(out, names, node.0)?;
             print_number(out, *count)
         }
     }
 }
 
-fn print_receiver(out: &mut Vec<u8>, names: &NodeNames, to: To) -> Result<(), NoMemory>
+fn print_receiver(out: &mut Vec<u8>, names: &NodeNames, to: To) -> Appended
     ensures { OnOk result (out.new.items ≡ out.old.items ++ next_words (receiver_word names.now to ∷ [])) }
 {
     match to {
         To::Controller => print_word(out, b"controller"),
-        To::Node(node) => print_node(out, names, node),
+        To::Node(node) => print_name(out, names, node.0),
     }
 }
 
 /// Appends the words of a control message with its receiver.
-pub fn print_addressed(
-    out: &mut Vec<u8>,
-    names: &NodeNames,
-    addressed: &Addressed,
-) -> Result<(), NoMemory>
+pub fn print_addressed(out: &mut Vec<u8>, names: &NodeNames, addressed: &Addressed) -> Appended
     ensures { OnOk result (out.new.items ≡ out.old.items ++ next_words (addressed_words names.now addressed.now)) }
 {
     print_word(out, b"to")?;

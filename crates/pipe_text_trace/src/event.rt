@@ -6,28 +6,25 @@ ghost use Rattle.pipe_text_trace.specs.Event.{dest_word, detail_words, event_wor
 ghost use Rattle.pipe_text_trace.specs.Line.{next_words};
 ghost use Rattle.pipe_text_trace.specs.TraceText.{event_text};
 
-use crate::node::{print_host, print_node};
-use crate::word::{print_first_word, print_line_end, print_number, print_word};
+use crate::word::{
+    Appended, print_first_word, print_line_end, print_name, print_number, print_word,
+};
 use pipe_base::{Body, Dest, HostId, List, NoMemory, Service, Ts};
 use pipe_model::Event;
 use pipe_text::{Text, print_hex, service_word};
 use pipe_topo::NodeNames;
 use std::alloc::Global;
 
-fn print_dest(
-    out: &mut Vec<u8>,
-    names: &NodeNames,
-    receiver: HostId,
-    body: &Body,
-) -> Result<(), NoMemory>
-    ensures { OnOk result (out.new.items ≡ out.old.items ++ next_words (dest_word names.now (receiver, body.now) ∷ [])) }
+fn print_dest(out: &mut Vec<u8>, names: &NodeNames, receiver: HostId, body: &Body) -> Appended
+    ensures { OnOk result (out.new.items ≡ out.old.items
+        ++ next_words (dest_word names.now (receiver, body.now) ∷ [])) }
 {
-    print_host(out, names, receiver)?;
+    print_name(out, names, receiver.0)?;
     out.push(b'=')?;
     print_hex(out, body.bytes())
 }
 
-fn print_dests(out: &mut Vec<u8>, names: &NodeNames, dests: &[Dest]) -> Result<(), NoMemory>
+fn print_dests(out: &mut Vec<u8>, names: &NodeNames, dests: &[Dest]) -> Appended
     ensures { OnOk result (out.new.items ≡ out.old.items ++ next_words (map (dest_word names.now) dests.now)) }
 {
     'dests: for (receiver, body) in dests {
@@ -42,15 +39,16 @@ fn print_sending(
     sender: HostId,
     service: Service,
     now: Ts,
-) -> Result<(), NoMemory>
-    ensures { OnOk result (out.new.items ≡ out.old.items ++ next_words (name_of names.now sender.0 ∷ service_word service ∷ decimal now.0 ∷ [])) }
+) -> Appended
+    ensures { OnOk result (out.new.items ≡ out.old.items
+        ++ next_words (name_of names.now sender.0 ∷ service_word service ∷ decimal now.0 ∷ [])) }
 {
-    print_host(out, names, sender)?;
+    print_name(out, names, sender.0)?;
     print_word(out, service_word(service))?;
     print_number(out, now.0)
 }
 
-fn print_keep(out: &mut Vec<u8>, keep: bool) -> Result<(), NoMemory>
+fn print_keep(out: &mut Vec<u8>, keep: bool) -> Appended
     ensures { OnOk result (out.new.items ≡ out.old.items ++ next_words (keep_words keep)) }
 {
     if keep {
@@ -76,7 +74,7 @@ fn verb_word(event: &Event) -> &'static [u8]
     }
 }
 
-fn print_details(out: &mut Vec<u8>, names: &NodeNames, event: &Event) -> Result<(), NoMemory>
+fn print_details(out: &mut Vec<u8>, names: &NodeNames, event: &Event) -> Appended
     ensures { OnOk result (out.new.items ≡ out.old.items ++ next_words (detail_words names.now event.now)) }
 {
     match event {
@@ -90,7 +88,7 @@ fn print_details(out: &mut Vec<u8>, names: &NodeNames, event: &Event) -> Result<
             print_dests(out, names, dests.as_slice())
         }
         Event::Tick { node, now } => {
-            print_node(out, names, *node)?;
+            print_name(out, names, node.0)?;
             print_number(out, now.0)
         }
         Event::Take { link, place, keep } => {
@@ -112,17 +110,13 @@ fn print_details(out: &mut Vec<u8>, names: &NodeNames, event: &Event) -> Result<
             print_number(out, *place)
         }
         Event::Decide => Ok(()),
-        Event::Crash { node } => print_node(out, names, *node),
+        Event::Crash { node } => print_name(out, names, node.0),
         Event::Cut { link } => print_number(out, link.0),
     }
 }
 
 /// Appends the words of an event after another word of the line.
-pub fn print_event_after(
-    out: &mut Vec<u8>,
-    names: &NodeNames,
-    event: &Event,
-) -> Result<(), NoMemory>
+pub fn print_event_after(out: &mut Vec<u8>, names: &NodeNames, event: &Event) -> Appended
     ensures { OnOk result (out.new.items ≡ out.old.items ++ next_words (event_words names.now event.now)) }
 {
     print_word(out, verb_word(event))?;

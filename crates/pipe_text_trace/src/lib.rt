@@ -3,7 +3,6 @@
 
 mod control;
 mod event;
-mod node;
 mod packet;
 mod record;
 mod step;

@@ -3,9 +3,8 @@ ghost use Rattle.std.specs.Prelude.{◌≡◌, ◌++◌, [], ◌∷◌, OnOk};
 ghost use Rattle.pipe_text_trace.specs.Line.{next_words};
 ghost use Rattle.pipe_text_trace.specs.Packet.{barrier_words, carried_words, kind_word, message_words, packet_words};
 
-use crate::node::print_host;
-use crate::word::{print_body, print_number, print_word};
-use pipe_base::{NoMemory, Packet, PacketKind};
+use crate::word::{Appended, print_body, print_name, print_number, print_word};
+use pipe_base::{Packet, PacketKind};
 use pipe_topo::NodeNames;
 
 fn kind_word(kind: PacketKind) -> &'static [u8]
@@ -21,24 +20,25 @@ fn kind_word(kind: PacketKind) -> &'static [u8]
     }
 }
 
-fn print_barriers(out: &mut Vec<u8>, packet: &Packet) -> Result<(), NoMemory>
+fn print_barriers(out: &mut Vec<u8>, packet: &Packet) -> Appended
     ensures { OnOk result (out.new.items ≡ out.old.items ++ next_words (barrier_words packet.now [])) }
 {
     print_number(out, packet.be.0)?;
     print_number(out, packet.commit.0)
 }
 
-fn print_message(out: &mut Vec<u8>, names: &NodeNames, packet: &Packet) -> Result<(), NoMemory>
+fn print_message(out: &mut Vec<u8>, names: &NodeNames, packet: &Packet) -> Appended
     ensures { OnOk result (out.new.items ≡ out.old.items ++ next_words (message_words names.now packet.now [])) }
 {
-    print_host(out, names, packet.src)?;
-    print_host(out, names, packet.dst)?;
+    print_name(out, names, packet.src.0)?;
+    print_name(out, names, packet.dst.0)?;
     print_number(out, packet.ts.0)?;
     print_barriers(out, packet)
 }
 
-fn print_carried(out: &mut Vec<u8>, names: &NodeNames, packet: &Packet) -> Result<(), NoMemory>
-    ensures { OnOk result (out.new.items ≡ out.old.items ++ next_words (carried_words names.now packet.now.kind packet.now)) }
+fn print_carried(out: &mut Vec<u8>, names: &NodeNames, packet: &Packet) -> Appended
+    ensures { OnOk result (out.new.items ≡ out.old.items
+        ++ next_words (carried_words names.now packet.now.kind packet.now)) }
 {
     match packet.kind {
         PacketKind::Beacon => print_barriers(out, packet),
@@ -53,7 +53,7 @@ fn print_carried(out: &mut Vec<u8>, names: &NodeNames, packet: &Packet) -> Resul
 }
 
 /// Appends the words of a packet.
-pub fn print_packet(out: &mut Vec<u8>, names: &NodeNames, packet: &Packet) -> Result<(), NoMemory>
+pub fn print_packet(out: &mut Vec<u8>, names: &NodeNames, packet: &Packet) -> Appended
     ensures { OnOk result (out.new.items ≡ out.old.items ++ next_words (packet_words names.now packet.now)) }
 {
     print_word(out, kind_word(packet.kind))?;

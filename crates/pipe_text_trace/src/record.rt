@@ -5,23 +5,17 @@ ghost use Rattle.pipe_text_trace.specs.Record.{control_line, down_line, dropped_
 
 use crate::control::print_addressed;
 use crate::event::print_event_after;
-use crate::node::print_host;
 use crate::packet::print_packet;
 use crate::step::{print_fate, print_outcome};
-use crate::word::{print_body, print_first_word, print_line_end, print_number, print_word};
-use pipe_base::{
-    Addressed, Announced, Entry, Fate, LinkId, NoMemory, Outcome, Packet, Service, Ts,
+use crate::word::{
+    Appended, print_body, print_first_word, print_line_end, print_name, print_number, print_word,
 };
+use pipe_base::{Addressed, Announced, Entry, Fate, LinkId, Outcome, Packet, Service, Ts};
 use pipe_model::{Event, Record, Took};
 use pipe_text::service_word;
 use pipe_topo::NodeNames;
 
-fn print_event_line(
-    out: &mut Vec<u8>,
-    names: &NodeNames,
-    at: usize,
-    event: &Event,
-) -> Result<(), NoMemory>
+fn print_event_line(out: &mut Vec<u8>, names: &NodeNames, at: usize, event: &Event) -> Appended
     ensures { OnOk result (out.new.items ≡ out.old.items ++ lines_text (event_line names.now at event.now ∷ [])) }
 {
     print_first_word(out, b"event")?;
@@ -30,11 +24,7 @@ fn print_event_line(
     print_line_end(out)
 }
 
-fn print_outcome_line(
-    out: &mut Vec<u8>,
-    names: &NodeNames,
-    outcome: Outcome,
-) -> Result<(), NoMemory>
+fn print_outcome_line(out: &mut Vec<u8>, names: &NodeNames, outcome: Outcome) -> Appended
     ensures { OnOk result (out.new.items ≡ out.old.items ++ lines_text (outcome_line names.now outcome ∷ [])) }
 {
     print_first_word(out, b"outcome")?;
@@ -42,7 +32,7 @@ fn print_outcome_line(
     print_line_end(out)
 }
 
-fn print_stamp_lines(out: &mut Vec<u8>, stamped: Option<Ts>) -> Result<(), NoMemory>
+fn print_stamp_lines(out: &mut Vec<u8>, stamped: Option<Ts>) -> Appended
     ensures { OnOk result (out.new.items ≡ out.old.items ++ lines_text (stamp_lines stamped)) }
 {
     let Some(ts) = stamped else {
@@ -53,7 +43,7 @@ fn print_stamp_lines(out: &mut Vec<u8>, stamped: Option<Ts>) -> Result<(), NoMem
     print_line_end(out)
 }
 
-fn print_took_lines(out: &mut Vec<u8>, names: &NodeNames, took: &Took) -> Result<(), NoMemory>
+fn print_took_lines(out: &mut Vec<u8>, names: &NodeNames, took: &Took) -> Appended
     ensures { OnOk result (out.new.items ≡ out.old.items ++ lines_text (took_lines names.now took.now)) }
 {
     match took {
@@ -72,64 +62,42 @@ fn print_took_lines(out: &mut Vec<u8>, names: &NodeNames, took: &Took) -> Result
     }
 }
 
-fn print_down_line(out: &mut Vec<u8>, link: LinkId, value: Ts) -> Result<(), NoMemory>
-    ensures { OnOk result (out.new.items ≡ out.old.items ++ line_text (down_line (link, value))) }
-{
-    print_first_word(out, b"down")?;
-    print_number(out, link.0)?;
-    print_number(out, value.0)?;
-    print_line_end(out)
-}
-
-fn print_down_lines(out: &mut Vec<u8>, downed: &[(LinkId, Ts)]) -> Result<(), NoMemory>
+fn print_down_lines(out: &mut Vec<u8>, downed: &[(LinkId, Ts)]) -> Appended
     ensures { OnOk result (out.new.items ≡ out.old.items ++ lines_text (map down_line downed.now)) }
 {
     'downed: for (link, value) in downed {
-        print_down_line(out, *link, *value)?;
+        print_first_word(out, b"down")?;
+        print_number(out, link.0)?;
+        print_number(out, value.0)?;
+        print_line_end(out)?;
     }
     Ok(())
 }
 
-fn print_noted_line(out: &mut Vec<u8>, names: &NodeNames, noted: Announced) -> Result<(), NoMemory>
-    ensures { OnOk result (out.new.items ≡ out.old.items ++ line_text (noted_line names.now noted)) }
-{
-    print_first_word(out, b"noted")?;
-    print_host(out, names, noted.host)?;
-    print_number(out, noted.time.0)?;
-    print_line_end(out)
-}
-
-fn print_noted_lines(
-    out: &mut Vec<u8>,
-    names: &NodeNames,
-    noted: &[Announced],
-) -> Result<(), NoMemory>
+fn print_noted_lines(out: &mut Vec<u8>, names: &NodeNames, noted: &[Announced]) -> Appended
     ensures { OnOk result (out.new.items ≡ out.old.items ++ lines_text (map (noted_line names.now) noted.now)) }
 {
     'noted: for entry in noted {
-        print_noted_line(out, names, *entry)?;
+        print_first_word(out, b"noted")?;
+        print_name(out, names, entry.host.0)?;
+        print_number(out, entry.time.0)?;
+        print_line_end(out)?;
     }
     Ok(())
 }
 
-fn print_dropped_line(out: &mut Vec<u8>, link: LinkId) -> Result<(), NoMemory>
-    ensures { OnOk result (out.new.items ≡ out.old.items ++ line_text (dropped_line link)) }
-{
-    print_first_word(out, b"dropped")?;
-    print_number(out, link.0)?;
-    print_line_end(out)
-}
-
-fn print_dropped_lines(out: &mut Vec<u8>, dropped: &[LinkId]) -> Result<(), NoMemory>
+fn print_dropped_lines(out: &mut Vec<u8>, dropped: &[LinkId]) -> Appended
     ensures { OnOk result (out.new.items ≡ out.old.items ++ lines_text (map dropped_line dropped.now)) }
 {
     'dropped: for link in dropped {
-        print_dropped_line(out, *link)?;
+        print_first_word(out, b"dropped")?;
+        print_number(out, link.0)?;
+        print_line_end(out)?;
     }
     Ok(())
 }
 
-fn print_fate_lines(out: &mut Vec<u8>, received: Option<Fate>) -> Result<(), NoMemory>
+fn print_fate_lines(out: &mut Vec<u8>, received: Option<Fate>) -> Appended
     ensures { OnOk result (out.new.items ≡ out.old.items ++ lines_text (fate_lines received)) }
 {
     let Some(fate) = received else {
@@ -140,88 +108,44 @@ fn print_fate_lines(out: &mut Vec<u8>, received: Option<Fate>) -> Result<(), NoM
     print_line_end(out)
 }
 
-fn print_logged_line(
-    out: &mut Vec<u8>,
-    names: &NodeNames,
-    service: Service,
-    entry: &Entry,
-) -> Result<(), NoMemory>
-    ensures { OnOk result (out.new.items ≡ out.old.items ++ line_text (logged_line names.now (service, entry.now))) }
-{
-    print_first_word(out, b"logged")?;
-    print_word(out, service_word(service))?;
-    print_number(out, entry.key.ts.0)?;
-    print_host(out, names, entry.key.src)?;
-    print_body(out, entry.body.bytes())?;
-    print_line_end(out)
-}
-
-fn print_logged_lines(
-    out: &mut Vec<u8>,
-    names: &NodeNames,
-    logged: &[(Service, Entry)],
-) -> Result<(), NoMemory>
+fn print_logged_lines(out: &mut Vec<u8>, names: &NodeNames, logged: &[(Service, Entry)]) -> Appended
     ensures { OnOk result (out.new.items ≡ out.old.items ++ lines_text (map (logged_line names.now) logged.now)) }
 {
     'logged: for (service, entry) in logged {
-        print_logged_line(out, names, *service, entry)?;
+        print_first_word(out, b"logged")?;
+        print_word(out, service_word(*service))?;
+        print_number(out, entry.key.ts.0)?;
+        print_name(out, names, entry.key.src.0)?;
+        print_body(out, entry.body.bytes())?;
+        print_line_end(out)?;
     }
     Ok(())
 }
 
-fn print_put_line(
-    out: &mut Vec<u8>,
-    names: &NodeNames,
-    link: LinkId,
-    put: &Packet,
-) -> Result<(), NoMemory>
-    ensures { OnOk result (out.new.items ≡ out.old.items ++ line_text (put_line names.now (link, put.now))) }
-{
-    print_first_word(out, b"put")?;
-    print_number(out, link.0)?;
-    print_packet(out, names, put)?;
-    print_line_end(out)
-}
-
-fn print_put_lines(
-    out: &mut Vec<u8>,
-    names: &NodeNames,
-    puts: &[(LinkId, Packet)],
-) -> Result<(), NoMemory>
+fn print_put_lines(out: &mut Vec<u8>, names: &NodeNames, puts: &[(LinkId, Packet)]) -> Appended
     ensures { OnOk result (out.new.items ≡ out.old.items ++ lines_text (map (put_line names.now) puts.now)) }
 {
     'puts: for (link, put) in puts {
-        print_put_line(out, names, *link, put)?;
+        print_first_word(out, b"put")?;
+        print_number(out, link.0)?;
+        print_packet(out, names, put)?;
+        print_line_end(out)?;
     }
     Ok(())
 }
 
-fn print_control_line(
-    out: &mut Vec<u8>,
-    names: &NodeNames,
-    told: &Addressed,
-) -> Result<(), NoMemory>
-    ensures { OnOk result (out.new.items ≡ out.old.items ++ line_text (control_line names.now told.now)) }
-{
-    print_first_word(out, b"control")?;
-    print_addressed(out, names, told)?;
-    print_line_end(out)
-}
-
-fn print_control_lines(
-    out: &mut Vec<u8>,
-    names: &NodeNames,
-    control: &[Addressed],
-) -> Result<(), NoMemory>
+fn print_control_lines(out: &mut Vec<u8>, names: &NodeNames, control: &[Addressed]) -> Appended
     ensures { OnOk result (out.new.items ≡ out.old.items ++ lines_text (map (control_line names.now) control.now)) }
 {
     'control: for told in control {
-        print_control_line(out, names, told)?;
+        print_first_word(out, b"control")?;
+        print_addressed(out, names, told)?;
+        print_line_end(out)?;
     }
     Ok(())
 }
 
-fn print_unrouted_lines(out: &mut Vec<u8>, count: u32) -> Result<(), NoMemory>
+fn print_unrouted_lines(out: &mut Vec<u8>, count: u32) -> Appended
     ensures { OnOk result (out.new.items ≡ out.old.items ++ lines_text (unrouted_lines count)) }
 {
     if count == 0 {
@@ -233,12 +157,7 @@ fn print_unrouted_lines(out: &mut Vec<u8>, count: u32) -> Result<(), NoMemory>
 }
 
 /// Appends the lines of the record with this number.
-pub fn print_record(
-    out: &mut Vec<u8>,
-    names: &NodeNames,
-    at: usize,
-    happened: &Record,
-) -> Result<(), NoMemory>
+pub fn print_record(out: &mut Vec<u8>, names: &NodeNames, at: usize, happened: &Record) -> Appended
     ensures { OnOk result (out.new.items ≡ out.old.items ++ lines_text (record_lines names.now at happened.now)) }
 {
     let step = &happened.step;

@@ -3,20 +3,19 @@ ghost use Rattle.std.specs.Prelude.{◌≡◌, ◌++◌, OnOk};
 ghost use Rattle.pipe_text_trace.specs.Line.{next_words};
 ghost use Rattle.pipe_text_trace.specs.Step.{fate_words, outcome_words};
 
-use crate::node::print_host;
-use crate::word::{print_number, print_word};
-use pipe_base::{Fate, NoMemory, Outcome};
+use crate::word::{Appended, print_name, print_number, print_word};
+use pipe_base::{Fate, Outcome};
 use pipe_topo::NodeNames;
 
 /// Appends the words of an outcome.
-pub fn print_outcome(out: &mut Vec<u8>, names: &NodeNames, outcome: Outcome) -> Result<(), NoMemory>
+pub fn print_outcome(out: &mut Vec<u8>, names: &NodeNames, outcome: Outcome) -> Appended
     ensures { OnOk result (out.new.items ≡ out.old.items ++ next_words (outcome_words names.now outcome)) }
 {
     match outcome {
         Outcome::Ok => print_word(out, b"ok"),
         Outcome::DestFailed { host } => {
             print_word(out, b"destfailed")?;
-            print_host(out, names, host)
+            print_name(out, names, host.0)
         }
         Outcome::Window { count } => {
             print_word(out, b"window")?;
@@ -33,7 +32,7 @@ pub fn print_outcome(out: &mut Vec<u8>, names: &NodeNames, outcome: Outcome) -> 
 }
 
 /// Appends the words of a fate.
-pub fn print_fate(out: &mut Vec<u8>, fate: Fate) -> Result<(), NoMemory>
+pub fn print_fate(out: &mut Vec<u8>, fate: Fate) -> Appended
     ensures { OnOk result (out.new.items ≡ out.old.items ++ next_words (fate_words fate)) }
 {
     match fate {

@@ -4,14 +4,14 @@ ghost use Rattle.pipe_text_trace.specs.Line.{lines_text};
 ghost use Rattle.pipe_text_trace.specs.TraceText.{records_lines, trace_text};
 
 use crate::record::print_record;
-use crate::word::{print_first_word, print_line_end, print_number};
+use crate::word::{Appended, print_first_word, print_line_end, print_number};
 use pipe_base::{List, NoMemory};
 use pipe_model::{Record, Trace};
 use pipe_text::Text;
 use pipe_topo::NodeNames;
 use std::alloc::Global;
 
-fn print_head(out: &mut Vec<u8>, records: usize) -> Result<(), NoMemory>
+fn print_head(out: &mut Vec<u8>, records: usize) -> Appended
     ensures { OnOk result (out.new.items ≡ out.old.items ++ lines_text ((codes "trace" ∷ decimal records ∷ []) ∷ [])) }
 {
     print_first_word(out, b"trace")?;
@@ -19,7 +19,7 @@ fn print_head(out: &mut Vec<u8>, records: usize) -> Result<(), NoMemory>
     print_line_end(out)
 }
 
-fn print_records(out: &mut Vec<u8>, names: &NodeNames, records: &[Record]) -> Result<(), NoMemory>
+fn print_records(out: &mut Vec<u8>, names: &NodeNames, records: &[Record]) -> Appended
     ensures { OnOk result (out.new.items ≡ out.old.items ++ lines_text (records_lines names.now 0 records.now)) }
 {
     'records: for (at, record) in records.iter().enumerate() {
@@ -28,7 +28,7 @@ fn print_records(out: &mut Vec<u8>, names: &NodeNames, records: &[Record]) -> Re
     Ok(())
 }
 
-fn print_last_line(out: &mut Vec<u8>) -> Result<(), NoMemory>
+fn print_last_line(out: &mut Vec<u8>) -> Appended
     ensures { OnOk result (out.new.items ≡ out.old.items ++ lines_text ((codes "end" ∷ []) ∷ [])) }
 {
     print_first_word(out, b"end")?;

@@ -1,5 +1,5 @@
 -- What the first fault says: the first pair that is apart; and a plan without a fault joins all hosts.
-use Rattle.std.proofs.Common.{◌≡◌, ℕ, ◌<◌, ◌≤◌, nat_le, nat_lt, if◌then◌else◌, ◌&&◌, not, Bool, true, false, List, length, replicate, subst, Option, None, Some, is_some, option_map, inl, inr, refl, sym, ap, ◌∙◌, true≢false, arith}
+use Rattle.std.proofs.Common.{◌≡◌, ℕ, ◌<◌, ◌≤◌, nat_le, nat_lt, if◌then◌else◌, ◌&&◌, not, Bool, true, false, List, length, replicate, Option, None, Some, is_some, option_map, inl, inr, refl, sym, ap, ◌∙◌, true≢false, arith}
 use Rattle.std.proofs.lemmas.Bool.{le-leb}
 use Rattle.std.proofs.lemmas.Bool.Decides.{leb_tells, nat_tests}
 use Rattle.std.proofs.lemmas.List.{get_or-replicate}
@@ -11,13 +11,12 @@ use Rattle.pipe_graph.proofs.Turn.{reach_turns}
 use Rattle.pipe_topo.specs.Fault.{too_many, no_hosts, level_fault, double_fault, idle_fault, shape_fault, is_apart, apart_from, apart_at, apart_fault, fault_of}
 use Rattle.std.specs.Option.{option_or}
 use Rattle.pipe_topo.specs.First.{first_below}
-use Rattle.pipe_topo.specs.Plan.{graph_of, HasEnds, IsPlan, IsSmall}
+use Rattle.pipe_topo.specs.Plan.{graph_of, IsPlan, IsSmall}
 use Rattle.pipe_topo.specs.Sets.{has}
 use Rattle.pipe_topo.specs.declared.fault.TopoFault.{TopoFault}
 use Rattle.pipe_topo.specs.declared.fault.TopoFault.TheVariants.{TooMany, Apart}
 use Rattle.pipe_topo.specs.declared.fault.What.{What}
 use Rattle.pipe_topo.specs.declared.fault.What.TheVariants.{Hosts, Switches, Cables}
-use Rattle.pipe_topo.specs.declared.plan.CableEnd.{CableEnd}
 use Rattle.pipe_topo.specs.declared.plan.Plan.{Plan}
 use Rattle.pipe_topo.proofs.FirstLaws.{none_first, first_at, first_none, first_passes}
 use Rattle.pipe_topo.proofs.LinkLaws.{plan_is_graph}
@@ -74,16 +73,6 @@ no_apart_joins plan is none a b a_lt b_lt =
           (not_apart (graph_of plan) b a (none_apart (graph_of plan) none b a b_lt a_lt) (omega (arith, gt.1)))
     ]
 
--- the graph that was made of a plan joins all hosts, where no such fault was found; levels and cables are seen as slices
-pub made_joins : (plan : Plan) (levels : List ℕ) (cables : List (CableEnd × CableEnd)) (g : Graph) → levels ≡ plan.levels → cables ≡ plan.cables
-    → IsSmall plan.hosts (length levels) (length cables) → HasEnds plan.hosts (length plan.levels) plan.cables
-    → g ≡ graph_of plan → apart_fault g ≡ None → JoinsAllHosts g
-made_joins plan levels cables g levels_are cables_are small ends made none =
-    let few : IsSmall plan.hosts (length plan.levels) (length plan.cables) =
-    subst (λ (p : List ℕ × List (CableEnd × CableEnd)). IsSmall plan.hosts (length p.0) (length p.1)) (λ i. (levels_are i, cables_are i)) small in
-    let is : IsPlan plan = record { small = few; ends = ends } in
-    subst JoinsAllHosts (sym made) (no_apart_joins plan is (ap apart_fault (sym made) ∙ none))
-
 -- a graph that joins all hosts has no fault of this kind
 pub joined_none_apart : (g : Graph) → JoinsAllHosts g → apart_fault g ≡ None
 joined_none_apart g joins =
@@ -98,7 +87,7 @@ joined_none_apart g joins =
     together : (a b : ℕ) → reaches g every_link a b ≡ true → is_apart g a b ≡ false
     together a b is = ap (λ (t : Bool). nat_le a b && not t) is ∙ and_false (nat_le a b)
 
-neither : (shape apart : Option TopoFault) → option_or shape apart ≡ None → (shape ≡ None) × (apart ≡ None)
+pub neither : (shape apart : Option TopoFault) → option_or shape apart ≡ None → (shape ≡ None) × (apart ≡ None)
 neither None apart none = (refl, none)
 neither (Some fault) apart none = absurd cc
 

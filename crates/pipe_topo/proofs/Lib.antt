@@ -1,5 +1,6 @@
 pub mod DigitLaws
 pub mod FaultLaws
+pub mod FedLaws
 pub mod FirstLaws
 pub mod LinkLaws
 pub mod MirrorLaws

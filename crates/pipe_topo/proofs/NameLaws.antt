@@ -1,13 +1,12 @@
 -- Lemmas on names: as bytes of the keys of a set, and one name more.
-use Rattle.std.proofs.Common.{◌≡◌, ◌≢◌, ℕ, ◌+◌, ◌<◌, Bool, false, not, if◌then◌else◌, cond, nat_lt, List, [], ◌∷◌, ◌++◌, length, map, get_or, None, Some, position, AllPairs, String, Global, string_bytes, inl, inr, refl, sym, ap, subst, ◌∙◌, true≢false, take, length-take-le, arith, length-append}
+use Rattle.std.proofs.Common.{◌≡◌, ◌≢◌, ℕ, ◌+◌, ◌<◌, Bool, false, not, if◌then◌else◌, cond, nat_lt, List, [], ◌∷◌, ◌++◌, length, map, get_or, None, Some, position, AllPairs, inl, inr, refl, sym, ap, subst, ◌∙◌, true≢false, take, length-take-le, arith, length-append}
+use Rattle.std.proofs.lemmas.Bool.{false_from_ne_true}
 use Rattle.std.specs.List.{list_any, prefix_len}
 use Rattle.std.specs.Str.{bytes_eq}
-use Rattle.std.specs.String.{string_eq}
 use Rattle.std.proofs.lemmas.Bool.Decides.{eqb_tells}
 use Rattle.std.proofs.lemmas.List.{get_or_append_left, get_or_at, take_more, get_or_default, get_or-take, map-append, length-map}
 use Rattle.std.proofs.lemmas.List.Folds.{list_any_at, list_any_none}
 use Rattle.std.proofs.lemmas.Slice.Eq.{bytes_eq-Decides}
-use Rattle.pipe_graph.proofs.Tests.{not_from}
 use Rattle.pipe_topo.specs.Names.{AreNames}
 
 pub list_any-map : {X Y : Type 0} (p : Y → Bool) (f : X → Y) (xs : List X) → list_any p (map f xs) ≡ list_any (λ x. p (f x)) xs
@@ -59,7 +58,7 @@ name_is_new names at different lt =
     (λ k d k_lt.
     let size = length-take-le at names (omega arith) in
     let read : get_or (take at names) k d ≡ get_or names k [] = get_or-take at names k d (omega arith) ∙ get_or_default names k d [] (omega arith) in
-    not_from (bytes_eq (get_or names at []) (get_or (take at names) k d))
+    false_from_ne_true (bytes_eq (get_or names at []) (get_or (take at names) k d))
     (λ same. different k at [] (omega arith) lt (sym ((bytes_eq-Decides (get_or names at []) (get_or (take at names) k d)).0 same ∙ read))))
 
 -- a copy gets the next name

@@ -1,5 +1,6 @@
 -- Lemmas on the names of nodes: those of one host or one switch more, and that these are new.
 use Rattle.std.proofs.Common.{◌≡◌, ◌≢◌, ℕ, zero, suc, ◌+◌, ◌<◌, ◌≤◌, ◌==◌, Bool, true, false, ◌||◌, ◌&&◌, List, [], ◌∷◌, ◌++◌, length, length-take-le, take, get_or, All, AllPairs, append_assoc, refl, ap, sym, ◌∙◌, arith, codes}
+use Rattle.std.proofs.lemmas.Bool.{or_parts}
 use Rattle.std.specs.List.{flat_map, list_any}
 use Rattle.std.specs.Str.{bytes_eq}
 use Rattle.std.proofs.lemmas.Bool.Decides.{nat_tests}
@@ -24,10 +25,6 @@ switch_more zero names name past = flat_map-append half_names names (name ∷ []
 switch_more (suc hosts) [] name past = absurd (omega arith)
 switch_more (suc hosts) (host ∷ names) name past = ap (λ (ns : List (List ℕ)). host ∷ ns) (switch_more hosts names name (omega arith))
 
-neither : (s t : Bool) → (s || t) ≡ false → (s ≡ false) × (t ≡ false)
-neither true t is = absurd cc
-neither false t is = (refl, is)
-
 and_false : (t : Bool) → (t && false) ≡ false
 and_false true = refl
 and_false false = refl
@@ -42,26 +39,26 @@ no_dot byte is = grind (arith, nat_tests)
 -- names that are cut at the first dot
 dotted_eq : (a b x y : List ℕ) → has_dot a ≡ false → has_dot b ≡ false → bytes_eq (a ++ 46 ∷ x) (b ++ 46 ∷ y) ≡ (bytes_eq a b && bytes_eq x y)
 dotted_eq [] [] x y none other = refl
-dotted_eq [] (d ∷ b) x y none other = ap (λ (t : Bool). t && bytes_eq x (b ++ 46 ∷ y)) (no_dot d (neither (d == 46) (has_dot b) other).0)
-dotted_eq (c ∷ a) [] x y none other = ap (λ (t : Bool). t && bytes_eq (a ++ 46 ∷ x) y) (neither (c == 46) (has_dot a) none).0
+dotted_eq [] (d ∷ b) x y none other = ap (λ (t : Bool). t && bytes_eq x (b ++ 46 ∷ y)) (no_dot d (or_parts (d == 46) (has_dot b) other).0)
+dotted_eq (c ∷ a) [] x y none other = ap (λ (t : Bool). t && bytes_eq (a ++ 46 ∷ x) y) (or_parts (c == 46) (has_dot a) none).0
 dotted_eq (c ∷ a) (d ∷ b) x y none other =
-    ap (λ (t : Bool). (c == d) && t) (dotted_eq a b x y (neither (c == 46) (has_dot a) none).1 (neither (d == 46) (has_dot b) other).1)
+    ap (λ (t : Bool). (c == d) && t) (dotted_eq a b x y (or_parts (c == 46) (has_dot a) none).1 (or_parts (d == 46) (has_dot b) other).1)
     ∙ and_assoc (c == d) (bytes_eq a b) (bytes_eq x y)
 
 -- a name without a dot is none with one
 host_eq : (a x host : List ℕ) → has_dot host ≡ false → bytes_eq (a ++ 46 ∷ x) host ≡ false
 host_eq [] x [] none = refl
 host_eq (c ∷ a) x [] none = refl
-host_eq [] x (d ∷ host) none = ap (λ (t : Bool). t && bytes_eq x host) (no_dot d (neither (d == 46) (has_dot host) none).0)
+host_eq [] x (d ∷ host) none = ap (λ (t : Bool). t && bytes_eq x host) (no_dot d (or_parts (d == 46) (has_dot host) none).0)
 host_eq (c ∷ a) x (d ∷ host) none =
-    ap (λ (t : Bool). (c == d) && t) (host_eq a x host (neither (d == 46) (has_dot host) none).1) ∙ and_false (c == d)
+    ap (λ (t : Bool). (c == d) && t) (host_eq a x host (or_parts (d == 46) (has_dot host) none).1) ∙ and_false (c == d)
 
 half_new : (name x : List ℕ) (switches : List (List ℕ)) → has_dot name ≡ false → list_any has_dot switches ≡ false
     → list_any (bytes_eq name) switches ≡ false → list_any (bytes_eq (name ++ 46 ∷ x)) (flat_map half_names switches) ≡ false
 half_new name x [] plain dotless new = refl
 half_new name x (switch ∷ switches) plain dotless new =
-    let other = neither (has_dot switch) (list_any has_dot switches) dotless in
-    let differs = neither (bytes_eq name switch) (list_any (bytes_eq name) switches) new in
+    let other = or_parts (has_dot switch) (list_any has_dot switches) dotless in
+    let differs = or_parts (bytes_eq name switch) (list_any (bytes_eq name) switches) new in
     let half : (y : List ℕ) → bytes_eq (name ++ 46 ∷ x) (switch ++ 46 ∷ y) ≡ false
     = λ y. dotted_eq name switch x y plain other.0 ∙ ap (λ (t : Bool). t && bytes_eq x y) differs.0 in
     λ i. half (codes "up") i || (half (codes "down") i || half_new name x switches plain other.1 differs.1 i)
@@ -72,8 +69,8 @@ node_new : (hosts : ℕ) (names : List (List ℕ)) (name x : List ℕ) → has_d
 node_new zero names name x plain dotless new = half_new name x names plain dotless new
 node_new (suc hosts) [] name x plain dotless new = refl
 node_new (suc hosts) (host ∷ names) name x plain dotless new =
-    let other = neither (has_dot host) (list_any has_dot names) dotless in
-    let differs = neither (bytes_eq name host) (list_any (bytes_eq name) names) new in
+    let other = or_parts (has_dot host) (list_any has_dot names) dotless in
+    let differs = or_parts (bytes_eq name host) (list_any (bytes_eq name) names) new in
     λ i. host_eq name x host other.0 i || node_new hosts names name x plain other.1 differs.1 i
 
 -- its down half's is new after its up half's

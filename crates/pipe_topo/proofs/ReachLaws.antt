@@ -1,7 +1,7 @@
 -- A node reaches another exactly where one of its links leads to a node that is not far from the other.
 use Rattle.std.proofs.Common.{◌≡◌, ℕ, ◌<◌, ◌==◌, nat_lt, Bool, true, List, ◌∷◌, length, get_or, sym, subst, arith}
 use Rattle.std.specs.List.{list_any}
-use Rattle.std.proofs.lemmas.Bool.{eqb-true, eq-eqb, ltb-true, lt-ltb}
+use Rattle.std.proofs.lemmas.Bool.{and_from, and_parts, eq-eqb, eqb-true, lt-ltb, ltb-true}
 use Rattle.std.proofs.lemmas.List.Elements.{filter_passes}
 use Rattle.std.proofs.lemmas.List.Folds.{Any-from_list_any, list_any_at}
 use Rattle.pipe_base.specs.declared.name.LinkId.{LinkId}
@@ -10,7 +10,7 @@ use Rattle.pipe_graph.specs.Reach.{reaches, leads_within}
 use Rattle.pipe_graph.proofs.Listed.{listed_below, listed_contains}
 use Rattle.pipe_graph.proofs.ReachLaws.{goes_on_gives, within_leads}
 use Rattle.pipe_graph.proofs.Rounds.{is_reach}
-use Rattle.pipe_graph.proofs.Tests.{and_parts, and_both, same_tests}
+use Rattle.pipe_graph.proofs.Tests.{same_tests}
 use Rattle.pipe_topo.specs.Walk.{far, away_of, IsDistances, leads_near}
 
 -- a link that is listed out of a node, and passes the test
@@ -45,5 +45,5 @@ near_is_reach g by a b away graph small right =
     let way = within_leads g by b g.nodes (head_of g found.0) found.2 in
     let least = right.least (head_of g found.0) way.0 way.1 in
     out_from g a (λ l. leads_near g by away l.0) found.0 found.1.known found.1.begins
-    (and_both (by found.0) (nat_lt (away_of away (head_of g found.0)) far) found.1.used
+    (and_from (by found.0) (nat_lt (away_of away (head_of g found.0)) far) found.1.used
     (lt-ltb (away_of away (head_of g found.0)) far (omega arith))))

@@ -1,6 +1,6 @@
 -- The steps of a walk keep what it knows, and at its end the table is right.
 use Rattle.std.proofs.Common.{◌≡◌, ◌≢◌, ℕ, ◌+◌, ◌<◌, ◌≤◌, ◌==◌, nat_lt, ◌&&◌, Bool, true, false, List, [], ◌∷◌, ◌++◌, length, get_or, set, replicate, All, Contains, MatchBool, min, sum, take, true≢false, inl, inr, refl, sym, ap, subst, ◌∙◌, arith, length-set, get_or-set_same, get_or-set_other, length-append}
-use Rattle.std.proofs.lemmas.Bool.{eqb-true, ltb-true, lt-ltb}
+use Rattle.std.proofs.lemmas.Bool.{and_from, and_parts, eqb-true, lt-ltb, ltb-true}
 use Rattle.std.proofs.lemmas.List.Sums.{sum_by-set}
 use Rattle.std.proofs.lemmas.Bool.Decides.{eqb_tells, leb_tells}
 use Rattle.std.proofs.lemmas.List.{get_or_past, get_or-replicate, length-replicate}
@@ -10,7 +10,6 @@ use Rattle.pipe_base.specs.declared.name.LinkId.{LinkId}
 use Rattle.pipe_graph.specs.Graph.{Graph, IsGraph, tail_of, head_of, is_half, link_id, all_links, ins_of}
 use Rattle.pipe_graph.specs.Path.{Leads}
 use Rattle.pipe_graph.proofs.Listed.{listed_all}
-use Rattle.pipe_graph.proofs.Tests.{and_parts, and_both}
 use Rattle.pipe_topo.specs.Walk.{far, away_of, IsDistances, IsWalk, node_id, comes_nearer, LooksAlong}
 
 -- an entry after a write
@@ -144,8 +143,8 @@ looks_falls g by l next away new_away queue new_queue inside looks = pick (comes
       λ used half. elim (leb_tells (away_of away (tail_of g l)) next) [
         | inl near ↦ let e = ap (λ (a : List ℕ). away_of a (tail_of g l)) same.0 in omega (arith, near.1)
         | inr nearer ↦
-            absurd (true≢false (sym (and_both (by l && is_half g (tail_of g l)) (nat_lt next (away_of away (tail_of g l)))
-            (and_both (by l) (is_half g (tail_of g l)) used half) (lt-ltb next (away_of away (tail_of g l)) nearer.1)) ∙ isnt))
+            absurd (true≢false (sym (and_from (by l && is_half g (tail_of g l)) (nat_lt next (away_of away (tail_of g l)))
+            (and_from (by l) (is_half g (tail_of g l)) used half) (lt-ltb next (away_of away (tail_of g l)) nearer.1)) ∙ isnt))
       ],
     )
     pick true nearer wrote =

@@ -1,5 +1,6 @@
 pub mod Digits
 pub mod Fault
+pub mod Fed
 pub mod First
 pub mod Names
 pub mod NodeNames

@@ -1,10 +1,11 @@
 // What every plan's graph has. Each law is a function that does nothing and ensures it.
-ghost use Rattle.std.specs.Prelude.{◌≡◌, ℕ, ◌≤◌, length, None};
+ghost use Rattle.std.specs.Prelude.{◌≡◌, ℕ, ◌<◌, ◌≤◌, length, None};
 ghost use Rattle.pipe_base.specs.declared.name.Ts.{Ts};
 ghost use Rattle.pipe_graph.specs.Graph.{IsGraph};
 ghost use Rattle.pipe_graph.specs.Reach.{JoinsAllHosts};
 ghost use Rattle.pipe_graph.specs.Mirror.{IsMirrored};
 ghost use Rattle.pipe_topo.specs.Fault.{fault_of};
+ghost use Rattle.pipe_topo.specs.Fed.{HasIns};
 ghost use Rattle.pipe_topo.specs.Plan.{IsPlan, IsSmall, graph_of};
 ghost use Rattle.pipe_topo.specs.Star.{star_plan};
 ghost use Rattle.pipe_topo.specs.declared.plan.Plan.{Plan};
@@ -13,6 +14,12 @@ ghost use Rattle.pipe_base.specs.Limits.{most_hosts};
 /// A plan without a fault joins any two hosts both ways, and each host with itself.
 pub fn no_fault_joins_all()
     ensures { (plan : Plan) → IsPlan plan → fault_of plan ≡ None → JoinsAllHosts (graph_of plan) }
+{}
+
+/// A plan without a fault has a host, and each node of its graph has an in-link.
+pub fn no_fault_has_ins()
+    ensures some { (plan : Plan) → IsPlan plan → fault_of plan ≡ None → 0 < plan.hosts }
+    ensures ins { (plan : Plan) → IsPlan plan → fault_of plan ≡ None → HasIns (graph_of plan) }
 {}
 
 /// A plan without a fault is within the limits.

@@ -23,7 +23,10 @@ mod wiring;
 pub use distances::{Distances, FAR};
 pub use fault::{TopoFault, What};
 pub use hosts::HostSet;
-pub use laws::{no_fault_is_small, no_fault_joins_all, plans_are_mirrored, stars_have_no_fault};
+pub use laws::{
+    no_fault_has_ins, no_fault_is_small, no_fault_joins_all, plans_are_mirrored,
+    stars_have_no_fault,
+};
 pub use links::LinkSet;
 pub use names::Names;
 pub use node_names::NodeNames;

@@ -10,7 +10,7 @@ use std::marker::Model;
 
 /// The nodes are first the hosts, then for each switch its up half and its down half. Cable c has the links `2 * c`,
 /// which goes up, and `2 * c + 1`, which goes down; after these each switch has a loop link from its up half to its
-/// down half. Any two hosts reach each other.
+/// down half. There is a host, any two hosts reach each other, and each node has an in-link.
 #[derive(Drop)]
 pub struct Topology {
     pub(crate) wiring: Wiring,
@@ -18,18 +18,19 @@ pub struct Topology {
 
 impl Model for Topology {
     ghost use Rattle.pipe_graph.specs.Graph.{Graph};
-    ghost use Rattle.pipe_graph.specs.Reach.{JoinsAllHosts};
+    ghost use Rattle.pipe_topo.specs.Fed.{IsFed};
 
     ghost Value = { Graph };
 
     ghost view = { λ t. t.wiring };
 
-    ghost invariant = { λ t. JoinsAllHosts t.wiring };
+    ghost invariant = { λ t. IsFed t.wiring };
 }
 
 impl Topology {
     pub fn hosts(&self) -> u16
         ensures value { result ≡ self.now.hosts }
+        ensures some { 0 < result }
         ensures few { result ≤ most_hosts }
         ensures are_nodes { result ≤ self.now.nodes }
         ensures joined { JoinsAllHosts self.now }
@@ -84,10 +85,11 @@ impl Topology {
         self.wiring.head(link)
     }
 
-    /// The links that end at the node, in rising number.
+    /// The links that end at the node, in rising number. There is one at least.
     pub fn ins(&self, node: NodeId) -> &[LinkId]
         requires { node.0 < self.now.nodes }
         ensures value { result.now ≡ ins_of self.now node.0 }
+        ensures some { 0 < length result.now }
         ensures known { All (λ l. l.0 < length self.now.links) result.now }
     {
         self.wiring.ins(node)

@@ -26,7 +26,7 @@ pub fn walk_back(
 {
     let mut away = vec![in alloc; FAR; usize::from(wiring.nodes())]?;
     away[usize::from(to.0)] = 0;
-    let mut queue = VecDeque::new(alloc);
+    let mut queue = VecDeque::with_capacity(alloc, usize::from(wiring.nodes()))?;
     queue.push_back(to)?;
     while let Some(node) = queue.pop_front() {
         look_back(wiring, by, node, &mut away, &mut queue)?;

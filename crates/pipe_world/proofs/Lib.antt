@@ -2,7 +2,6 @@ pub mod ActsAt
 pub mod Decisions
 pub mod Messages
 pub mod Passing
-pub mod RunLaws
 pub mod StepPuts
 pub mod WaitingLists
 pub mod WorldSteps

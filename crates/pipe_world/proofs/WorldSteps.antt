@@ -29,6 +29,7 @@ use Rattle.pipe_model.specs.Run.{IsHistory, IsNodeStep, IsStep}
 use Rattle.pipe_model.specs.Sender.{sender_calls}
 use Rattle.pipe_model.proofs.Links.{comes_by}
 use Rattle.pipe_model.proofs.Own.{own_more, own_same}
+use Rattle.pipe_model_runs.proofs.OneRun.{record_only}
 use Rattle.pipe_net.specs.Waits.{Waits}
 use Rattle.pipe_world.specs.declared.node.Node.{Node}
 use Rattle.pipe_world.specs.declared.node.NodeState.{NodeState}
@@ -144,7 +145,7 @@ added graph id before after mid lists left event took step names undecided at is
 pub overfills : (graph : Graph) (trace : List Record) (r : Record) (event : Event) (items : ℕ) → IsHistory graph (reverse trace) → IsStep graph (reverse trace) r → r.event ≡ event
     → IsOver trace r items → Overfills graph trace event items
 overfills graph trace r event items past step is over =
-    record { past = past; next = r; event_is = is; rules = step; over = over }
+    record { past = past; over = subst (λ (x : Record). IsOver trace x items) (record_only graph (reverse trace) event r past step is) over }
 
 -- a record that is no node's own leaves what is kept of the nodes
 pub kept_nodes : (graph : Graph) (nodes : List NodeState) (lists left : Waits) (past : List Record) (r : Record) → Keeps graph nodes lists past

@@ -3,7 +3,7 @@ ghost use Rattle.std.specs.Prelude.{◌≡◌, ◌≤◌, ℕ, [], ◌∷◌, �
 ghost use Rattle.pipe_graph.specs.Graph.{Graph};
 ghost use Rattle.pipe_model.specs.declared.record.Record.{Record};
 ghost use Rattle.pipe_base.specs.Limits.{most_items};
-ghost use Rattle.pipe_model.specs.Items.{items_in};
+ghost use Rattle.pipe_model.specs.Items.{items_in, items_of};
 ghost use Rattle.pipe_world.specs.History.{FullBy};
 ghost use Rattle.pipe_net.specs.Waits.{waiting};
 ghost use Rattle.pipe_world.specs.Queues.{AreKnown, IsInPlace, Stand, with_items};
@@ -25,6 +25,7 @@ pub fn enter(queues: &mut Queues, history: &mut History, made: &mut Record) -> R
     ensures ok { OnOk result (history.new ≡ history.old ++ made.old ∷ []) }
     ensures err { OnErr result ((history.new ≡ history.old) × (made.new ≡ made.old) × (queues.new ≡ queues.old)) }
     ensures full { IfErr result (FullBy history.old made.old) }
+    ensures within { OnOk result (items_of history.new ≤ most_items) }
     ensures queues_ok { OnOk result ((graph : Graph) (past : List Record) → Stand graph queues.old past
         → Stand graph queues.new (made.old ∷ past)) }
 {

@@ -5,14 +5,14 @@ ghost use Rattle.pipe_control.specs.Known as control;
 ghost use Rattle.pipe_control.specs.Known.{Fits, IsSized};
 ghost use Rattle.pipe_model.specs.Controller.{after_event};
 ghost use Rattle.pipe_model.specs.Event.{IsOfGraph};
-ghost use Rattle.pipe_model.specs.Items.{Overfills};
+ghost use Rattle.pipe_model.specs.Items.{Overfills, items_of};
 ghost use Rattle.pipe_model.specs.View.{View};
 ghost use Rattle.pipe_world.specs.Decision.{Decides, decided};
 ghost use Rattle.pipe_world.specs.History.{FullBy};
 ghost use Rattle.pipe_world.specs.Queues.{Stand};
 ghost use Rattle.pipe_world.specs.Turn.{IsUndecided};
 ghost use Rattle.pipe_world.specs.World.{AddsEvent, RunsFor};
-ghost use Rattle.pipe_base.specs.Limits.{most_nodes, most_links};
+ghost use Rattle.pipe_base.specs.Limits.{most_items, most_nodes, most_links};
 
 use crate::enter::enter;
 use crate::fault::StepFault;
@@ -40,6 +40,7 @@ pub fn run_event(
     ensures err { OnErr result (history.new ≡ history.old) }
     ensures full { IfErr result (λ fault. (items : ℕ) → fault ≡ StepFault.Full items
         → Overfills topology.now history.old event items) }
+    ensures within { OnOk result (items_of history.new ≤ most_items) }
     ensures runs { RunsFor topology.now nodes.new queues.new controller.new history.new }
 {
     if let Event::Decide = event {
@@ -67,6 +68,7 @@ fn decide(
         → Decides topology.now v queues.old queues.new controller.new history.old history.new) }
     ensures err { OnErr result ((history.new ≡ history.old) × (queues.new ≡ queues.old)
         × (controller.new ≡ controller.old)) }
+    ensures within { OnOk result (items_of history.new ≤ most_items) }
     ensures full { IfErr result (λ fault. (v : View) → control.Stands topology.now v controller.old
         → FullBy history.old (decided topology.now v) fault) }
 {

@@ -1,16 +1,13 @@
 // The world: a network, what its nodes keep, what waits, and all that happened.
-ghost use Rattle.std.specs.Prelude.{◌≡◌, ◌<◌, ◌≤◌, ℕ, List, [], true, IfErr, IfOk, OnOk, OnErr, length, reverse, slice_index_or};
+ghost use Rattle.std.specs.Prelude.{◌≡◌, ◌<◌, ◌≤◌, ℕ, List, [], true, IfErr, IfOk, OnOk, OnErr, length, map, reverse, slice_index_or};
 ghost use Rattle.pipe_model.specs.Event.{IsOfGraph};
 ghost use Rattle.pipe_graph.specs.Graph.{Graph, IsGraph, is_half};
 ghost use Rattle.pipe_base.specs.Limits.{most_items};
 ghost use Rattle.pipe_graph.specs.Reach.{JoinsAllHosts};
-ghost use Rattle.pipe_model.specs.AllOrNone.{IsAllOrNone};
 ghost use Rattle.pipe_model.specs.Items.{Overfills, items_of};
-ghost use Rattle.pipe_model.specs.LateMessage.{IsNoneLateOfItself};
-ghost use Rattle.pipe_model.specs.NeverLate.{AreLinksOrdered, IsNeverLate};
-ghost use Rattle.pipe_model.specs.Order.{AreLogsOrdered, AreStampsCausal, IsGenuine};
 ghost use Rattle.pipe_model.specs.Outcome.{has_crashed};
-ghost use Rattle.pipe_model.specs.Run.{IsHistory};
+ghost use Rattle.pipe_model.specs.OrderedRun.{IsOrderedRun};
+ghost use Rattle.pipe_model.specs.Run.{event_of};
 ghost use Rattle.pipe_model.specs.Waiting.{waiting_control, waiting_on};
 ghost use Rattle.pipe_world.specs.declared.node.NodeState.{NodeState};
 ghost use Rattle.pipe_model.specs.declared.record.Record.{Record};
@@ -20,7 +17,6 @@ ghost use Rattle.pipe_model.specs.Controller.{view};
 ghost use Rattle.pipe_host.specs.Host as hosts;
 ghost use Rattle.pipe_switch.specs.Half as halves;
 ghost use Rattle.pipe_world.specs.Node as node;
-ghost use Rattle.pipe_model.specs.OnTime.{IsLoggedOnTime};
 ghost use Rattle.pipe_world.specs.World.{Extends, HasHalf, HasHost};
 
 use crate::event::run_event;
@@ -74,10 +70,12 @@ impl World {
         })
     }
 
-    /// Runs one event and appends its record.
+    /// Runs one event and appends its record. `Full` is answered only where that would put too much, and the event runs only where
+    /// it would not.
     pub fn step(&mut self, event: Event) -> Result<(), StepFault>
         requires event { IsOfGraph self.old.graph event }
         ensures ok { OnOk result (Extends self.old self.new event) }
+        ensures within { OnOk result (items_of self.new.trace ≤ most_items) }
         ensures full { IfErr result (λ fault. (items : ℕ) → fault ≡ StepFault.Full items
             → Overfills self.old.graph self.old.trace event items) }
         ensures err { OnErr result (self.new ≡ self.old) }
@@ -92,22 +90,11 @@ impl World {
         )
     }
 
-    /// All that happened, the oldest record first. It is a history by the rules, and the order of the channel holds of it; what a
-    /// barrier passes is logged in that step, unless it is late, void or taken back; what all correct receivers have passed is in
-    /// all their logs or in none; no reliable message is late of itself, and where each take took the oldest packet of its link,
-    /// no best-effort message is late.
+    /// All that happened, the oldest record first. It is the run of its events, and the channel keeps its promises in it.
     pub fn trace(&self) -> &Trace
         ensures trace { result.now ≡ self.now.trace }
-        ensures within { items_of self.now.trace ≤ most_items }
         ensures joined { JoinsAllHosts self.now.graph }
-        ensures history { IsHistory self.now.graph (reverse self.now.trace) }
-        ensures ordered { AreLogsOrdered self.now.graph (reverse self.now.trace) }
-        ensures causal { AreStampsCausal self.now.graph (reverse self.now.trace) }
-        ensures genuine { IsGenuine self.now.graph (reverse self.now.trace) }
-        ensures on_time { IsLoggedOnTime self.now.graph (reverse self.now.trace) }
-        ensures never_late { AreLinksOrdered (reverse self.now.trace) → IsNeverLate (reverse self.now.trace) }
-        ensures all_or_none { IsAllOrNone self.now.graph (reverse self.now.trace) }
-        ensures none_late { IsNoneLateOfItself self.now.graph (reverse self.now.trace) }
+        ensures run { IsOrderedRun self.now.graph (map event_of self.now.trace) self.now.trace }
     {
         self.history.trace()
     }
@@ -115,15 +102,8 @@ impl World {
     /// The trace by itself.
     pub fn into_trace(self) -> Trace
         ensures trace { result ≡ self.trace }
-        ensures within { items_of result ≤ most_items }
-        ensures history { IsHistory self.graph (reverse result) }
-        ensures ordered { AreLogsOrdered self.graph (reverse result) }
-        ensures causal { AreStampsCausal self.graph (reverse result) }
-        ensures genuine { IsGenuine self.graph (reverse result) }
-        ensures on_time { IsLoggedOnTime self.graph (reverse result) }
-        ensures never_late { AreLinksOrdered (reverse result) → IsNeverLate (reverse result) }
-        ensures all_or_none { IsAllOrNone self.graph (reverse result) }
-        ensures none_late { IsNoneLateOfItself self.graph (reverse result) }
+        ensures joined { JoinsAllHosts self.graph }
+        ensures run { IsOrderedRun self.graph (map event_of result) result }
     {
         self.history.into_trace()
     }

@@ -1,7 +1,7 @@
 use Rattle.std.proofs.Common.{◌≡◌, List, ap, subst, ◌∙◌}
+use Rattle.pipe_model.specs.OrderedRun.{IsOrderedRun}
 use Rattle.pipe_model.specs.declared.event.Event.{Event}
 use Rattle.pipe_world.specs.World.{GraphAndTrace}
-use Rattle.pipe_cli.specs.Replay.{IsOrderedRun}
 use Rattle.pipe_cli.proofs.AnswerLaws.{overfull, replayed}
 use Rattle.pipe_cli.proofs.replay.run_input.Goals as goal
 

@@ -13,7 +13,7 @@ loop-node-init c =
     sym (ap (λ (xs : List ℕ). set xs c.from-2.result 0) (c.in_ok-away.ensures.items_if_clones_equal (λ y e. e))
     ∙ (λ i. set (replicate (nodes i) far) (c.from-2.ensures i) 0)) in
     let queue : node_id c.args.to.0 ∷ [] ≡ c.push_back.new.self.items =
-    sym (c.in_ok-push_back.ensures.items ∙ ap (λ (q : List NodeId). q ++ c.args.to ∷ []) c.new-queue.ensures.items) in
+    sym (c.in_ok-push_back.ensures.items ∙ ap (λ (q : List NodeId). q ++ c.args.to ∷ []) c.in_ok-queue.ensures.items) in
     subst (λ (p : List ℕ × List NodeId). IsWalk c.args.wiring.now (has c.args.by.now) c.args.to.0 p.0 p.1) (λ i. (away i, queue i))
     (walk_start c.args.wiring.now (has c.args.by.now) c.args.to.0 c.requires.node)
 

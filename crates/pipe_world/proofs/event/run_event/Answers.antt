@@ -106,6 +106,7 @@ returns c =
       ok = c.in_ok-happen.ensures.ok;
       err = tt;
       full = tt;
+      within = c.trace-2.ensures.within;
       runs =
           heard_runs c.args.topology.now c.happen.new.nodes c.happen.new.queues c.args.controller.now c.hear.new.controller old new c.args.event c.index-as_slice-at.result
           c.requires.runs.controller_is c.happen.ensures.stands (undecided_of c.args.event c.in_default.not-Decide) c.in_ok-happen.ensures.ok

@@ -1,55 +1,19 @@
-use Rattle.std.proofs.Common.{List, reverse, subst, sym}
+use Rattle.std.proofs.Common.{List, map, refl, subst, sym}
+use Rattle.pipe_graph.specs.Reach.{JoinsAllHosts}
 use Rattle.pipe_model.specs.declared.record.Record.{Record}
-use Rattle.pipe_model.specs.AllOrNone.{IsAllOrNone}
-use Rattle.pipe_model.specs.LateMessage.{IsNoneLateOfItself}
-use Rattle.pipe_model.specs.NeverLate.{AreLinksOrdered, IsNeverLate}
-use Rattle.pipe_model.specs.Order.{AreLogsOrdered, AreStampsCausal, IsGenuine}
-use Rattle.pipe_model_atomic.proofs.AllOrNone.{all_or_none}
-use Rattle.pipe_model_atomic.proofs.LateMessage.{none_late}
-use Rattle.pipe_model_net.proofs.Genuine.{run_genuine}
-use Rattle.pipe_model_net.proofs.NeverLate.{never_late}
-use Rattle.pipe_model.specs.OnTime.{IsLoggedOnTime}
+use Rattle.pipe_model.specs.OrderedRun.{IsOrderedRun}
+use Rattle.pipe_model.specs.Run.{event_of}
+use Rattle.pipe_model_atomic.proofs.OrderedRun.{ordered_run}
 use Rattle.pipe_world.specs.World.{GraphAndTrace}
-use Rattle.pipe_world.proofs.RunLaws.{run_ordered, run_causal, run_on_time}
 use Rattle.pipe_world.proofs.world.World.into_trace.Goals as goal
 
-pub returns-clause-ordered : goal.returns-clause-ordered
-returns-clause-ordered c =
-    subst (λ (v : GraphAndTrace). AreLogsOrdered v.graph (reverse c.into_trace.result)) c.self.view_is
-    (subst (λ (t : List Record). AreLogsOrdered c.self.inside.topology (reverse t)) (sym c.into_trace.ensures.trace)
-    (run_ordered c.self.inside.topology (reverse c.self.inside.history) c.self.invariant.keeps.rules))
+pub returns-clause-joined : goal.returns-clause-joined
+returns-clause-joined c = subst (λ (v : GraphAndTrace). JoinsAllHosts v.graph) c.self.view_is c.self.invariant.keeps.joined
 
-pub returns-clause-causal : goal.returns-clause-causal
-returns-clause-causal c =
-    subst (λ (v : GraphAndTrace). AreStampsCausal v.graph (reverse c.into_trace.result)) c.self.view_is
-    (subst (λ (t : List Record). AreStampsCausal c.self.inside.topology (reverse t)) (sym c.into_trace.ensures.trace)
-    (run_causal c.self.inside.topology (reverse c.self.inside.history) c.self.invariant.keeps.rules))
-
-pub returns-clause-genuine : goal.returns-clause-genuine
-returns-clause-genuine c =
-    subst (λ (v : GraphAndTrace). IsGenuine v.graph (reverse c.into_trace.result)) c.self.view_is
-    (subst (λ (t : List Record). IsGenuine c.self.inside.topology (reverse t)) (sym c.into_trace.ensures.trace)
-    (run_genuine c.self.inside.topology (reverse c.self.inside.history) c.self.invariant.keeps.rules))
-
-pub returns-clause-never_late : goal.returns-clause-never_late
-returns-clause-never_late c =
-    subst (λ (t : List Record). AreLinksOrdered (reverse t) → IsNeverLate (reverse t)) (sym c.into_trace.ensures.trace)
-    (never_late c.self.inside.topology (reverse c.self.inside.history) c.self.invariant.keeps.rules c.self.invariant.keeps.names)
-
-pub returns-clause-all_or_none : goal.returns-clause-all_or_none
-returns-clause-all_or_none c =
-    subst (λ (v : GraphAndTrace). IsAllOrNone v.graph (reverse c.into_trace.result)) c.self.view_is
-    (subst (λ (t : List Record). IsAllOrNone c.self.inside.topology (reverse t)) (sym c.into_trace.ensures.trace)
-    (all_or_none c.self.inside.topology (reverse c.self.inside.history) c.self.invariant.keeps.joined c.self.invariant.keeps.rules))
-
-pub returns-clause-none_late : goal.returns-clause-none_late
-returns-clause-none_late c =
-    subst (λ (v : GraphAndTrace). IsNoneLateOfItself v.graph (reverse c.into_trace.result)) c.self.view_is
-    (subst (λ (t : List Record). IsNoneLateOfItself c.self.inside.topology (reverse t)) (sym c.into_trace.ensures.trace)
-    (none_late c.self.inside.topology (reverse c.self.inside.history) c.self.invariant.keeps.joined c.self.invariant.keeps.rules c.self.invariant.keeps.names))
-
-pub returns-clause-on_time : goal.returns-clause-on_time
-returns-clause-on_time c =
-    subst (λ (v : GraphAndTrace). IsLoggedOnTime v.graph (reverse c.into_trace.result)) c.self.view_is
-    (subst (λ (t : List Record). IsLoggedOnTime c.self.inside.topology (reverse t)) (sym c.into_trace.ensures.trace)
-    (run_on_time c.self.inside.topology (reverse c.self.inside.history) c.self.invariant.keeps.rules))
+pub returns-clause-run : goal.returns-clause-run
+returns-clause-run c =
+    let trace : List Record = c.self.inside.history in
+    let keeps = c.self.invariant.keeps in
+    subst (λ (v : GraphAndTrace). IsOrderedRun v.graph (map event_of c.into_trace.result) c.into_trace.result) c.self.view_is
+    (subst (λ (t : List Record). IsOrderedRun c.self.inside.topology (map event_of t) t) (sym c.into_trace.ensures.trace)
+    (ordered_run c.self.inside.topology (map event_of trace) trace keeps.joined keeps.names c.into_trace.ensures.within (record { events_are = refl; rules = keeps.rules })))

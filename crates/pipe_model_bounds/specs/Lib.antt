@@ -1,0 +1,4 @@
+pub mod DroppedOnce
+pub mod Numbers
+pub mod RecallListed
+pub mod Sizes

@@ -1,0 +1,4 @@
+pub mod Agreement
+pub mod Holding
+pub mod RecordOrder
+pub mod StampOrder
