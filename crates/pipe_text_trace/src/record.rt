@@ -122,14 +122,20 @@ fn print_logged_lines(out: &mut Vec<u8>, names: &NodeNames, logged: &[(Service, 
     Ok(())
 }
 
+fn print_put_line(out: &mut Vec<u8>, names: &NodeNames, link: LinkId, put: &Packet) -> Appended
+    ensures { OnOk result (out.new.items ≡ out.old.items ++ line_text (put_line names.now (link, put.now))) }
+{
+    print_first_word(out, b"put")?;
+    print_number(out, link.0)?;
+    print_packet(out, names, put)?;
+    print_line_end(out)
+}
+
 fn print_put_lines(out: &mut Vec<u8>, names: &NodeNames, puts: &[(LinkId, Packet)]) -> Appended
     ensures { OnOk result (out.new.items ≡ out.old.items ++ lines_text (map (put_line names.now) puts.now)) }
 {
     'puts: for (link, put) in puts {
-        print_first_word(out, b"put")?;
-        print_number(out, link.0)?;
-        print_packet(out, names, put)?;
-        print_line_end(out)?;
+        print_put_line(out, names, *link, put)?;
     }
     Ok(())
 }

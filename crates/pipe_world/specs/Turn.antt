@@ -31,7 +31,14 @@ use Rattle.pipe_world.specs.World.{Keeps}
 -- an event that is no decision of the controller
 abbrev pub IsUndecided : Event → Type 0
 IsUndecided Decide = ⊥
-IsUndecided _ = Unit {0}
+IsUndecided (Send host service now dests) = Unit {0}
+IsUndecided (Tick node now) = Unit {0}
+IsUndecided (Take link place keep) = Unit {0}
+IsUndecided (Lose link place) = Unit {0}
+IsUndecided (ControlTake place keep) = Unit {0}
+IsUndecided (ControlLose place) = Unit {0}
+IsUndecided (Crash node) = Unit {0}
+IsUndecided (Cut link) = Unit {0}
 
 -- something waits at the place that the event names, if it names one
 abbrev pub is_there : Waits → Event → Bool
@@ -100,7 +107,11 @@ IsOfNobody (Lose link place) took = Unit {0}
 IsOfNobody (ControlTake place keep) took = IsToController took
 IsOfNobody (ControlLose place) took = Unit {0}
 IsOfNobody (Cut link) took = Unit {0}
-IsOfNobody _ took = ⊥
+IsOfNobody (Send host service now dests) took = ⊥
+IsOfNobody (Tick node now) took = ⊥
+IsOfNobody (Take link place keep) took = ⊥
+IsOfNobody Decide took = ⊥
+IsOfNobody (Crash node) took = ⊥
 
 abbrev pub is_crash : Event → Bool
 is_crash (Crash n) = true
